@@ -1,0 +1,56 @@
+-- `answers::clear_i32` meets its contract: behind i elements the destination begins with i zeros. Assumes nothing.
+use borrow.Author.Needs.{needs}
+use native.Mathlib.Omega.{arith}
+use Prim.Native.Nat.{_-_}
+use lib.IntN.{pos}
+use lib.ListN.{length}
+use Rattle.answers.proofs.Laws.{Cleared, clear-start, clear-turn, clear-end}
+use Rattle.answers.proofs.clear_i32.Statement.{statement}
+use Rattle.answers.proofs.clear_i32.Tie as tie
+use Rattle.answers.proofs.clear_i32.Reads as reads
+use Rattle.answers.proofs.clear_i32.Lts as lts
+
+abbrev Inv-loop : tie.InvT-loop
+Inv-loop destination₀ i₀ destination i = Cleared (pos 0) destination₀ destination i
+
+abbrev μ-loop : tie.MeasureT-loop
+μ-loop destination₀ i₀ destination i = length destination₀ - i
+
+loop-holds : tie.Need-loop-holds Inv-loop μ-loop
+loop-holds c = clear-start _ _
+
+mul-destination : tie.Need-mul-destination Inv-loop μ-loop
+mul-destination c = search needs
+
+slice-set-of-destination : tie.Need-slice-set-of-destination Inv-loop μ-loop
+slice-set-of-destination c = omega arith
+
+add-i : tie.Need-add-i Inv-loop μ-loop
+add-i c = omega arith
+
+loop-less : tie.Need-loop-less Inv-loop μ-loop
+loop-less c = omega (arith, c .before .loop .inv .long)
+
+loop-again : tie.Need-loop-again Inv-loop μ-loop
+loop-again c = clear-turn (c .before .loop .inv) (c .loop-test .taken)
+
+same-length : tie.Need-same-length Inv-loop μ-loop
+same-length c = c .before .loop .inv .long
+
+returns : tie.Need-returns Inv-loop μ-loop
+returns c = clear-end (c .before .loop .inv) (c .loop-test .left)
+
+pub clear-i32-spec : {M : Type 1} → statement M
+clear-i32-spec =
+    tie.close
+    (tie.spec
+    Inv-loop
+    μ-loop
+    loop-holds
+    mul-destination
+    slice-set-of-destination
+    add-i
+    loop-less
+    loop-again
+    same-length
+    returns)
