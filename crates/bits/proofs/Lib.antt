@@ -1,0 +1,3 @@
+pub mod Taking
+pub mod Putting
+pub mod Trip

@@ -1,0 +1,174 @@
+// Bits out of coded bytes, and bytes out of bits, highest bit first, with 00 after FF (01, "Refinement planes").
+ghost use mathlib.Core.Path.{_≡_};
+ghost use mathlib.Core.List.{[], _∷_};
+ghost use Prim.Native.Nat.{_+_, _-_, _^_, _≤_, _<_};
+ghost use lib.ListN.{set, length};
+ghost use lib.Seq.{sets};
+ghost use Rattle.laws.specs.Index.{every};
+ghost use Rattle.bits.specs.Source.{takeBit, onlyPadding};
+ghost use Rattle.bits.specs.Pack.{stuffed, padded};
+ghost use Rattle.bits.specs.Code.{sourceOf, takenOf, topOf, highs, Sound, Puts, Ends};
+
+// Bytes read so far, and the unread bits of the last one: `left` of them, the highest of `byte`.
+pub struct Cursor {
+    pub at: usize,
+    pub left: u8,
+    pub byte: u8,
+}
+
+// Why reading stops: a number of 01's table.
+pub struct Stop {
+    pub number: u32,
+}
+
+pub enum Taken {
+    Bit(bool, Cursor),
+    Ended,
+    Marker,
+}
+
+// The highest bit of a byte, and the byte moved up by one.
+fn top(at: usize, left: u8, byte: u8) -> Taken
+    ensures { λ r. ⌜ r ≡ topOf at left byte ⌝ }
+{
+    Taken::Bit(
+        byte >> 7 == 1,
+        Cursor {
+            at,
+            left,
+            byte: (byte & 127) << 1,
+        },
+    )
+}
+
+// The next bit. "A byte is read only when a bit of it is needed."
+pub fn take_bit(data: &[u8], c: Cursor) -> Taken
+    ensures { λ r. ⌜ takenOf (now («data» .entry)) r ≡ takeBit (sourceOf (now («data» .entry)) c) ⌝ }
+{
+    let at = c.at;
+    let left = c.left;
+    if 0 < left {
+        return top(at, left - 1, c.byte);
+    }
+    if data.len() <= at {
+        return Taken::Ended;
+    }
+    let b = data[at];
+    if b != 255 {
+        return top(at + 1, 7, b);
+    }
+    if data.len() <= at + 1 {
+        return Taken::Ended;
+    }
+    if data[at + 1] != 0 {
+        return Taken::Marker;
+    }
+    top(at + 2, 7, 255)
+}
+
+// Whether the unread bits of the byte in hand are all ones.
+fn ones_left(left: u8, byte: u8) -> bool
+    ensures { λ r. ⌜ r ≡ every (highs left byte) ⌝ }
+{
+    let mut n = left;
+    let mut b = byte;
+    while 0 < n {
+        if b >> 7 != 1 {
+            return false;
+        }
+        b = (b & 127) << 1;
+        n -= 1;
+    }
+    true
+}
+
+// Whether nothing but padding is left.
+pub fn only_padding(data: &[u8], c: Cursor) -> bool
+    ensures { λ r. ⌜ r ≡ onlyPadding (sourceOf (now («data» .entry)) c) ⌝ }
+{
+    let at = c.at;
+    if ones_left(c.left, c.byte) {
+        data.len() <= at
+    } else {
+        false
+    }
+}
+
+// Bytes stored or counted so far, the bits in hand as a number, and how many bits the byte takes after the next one.
+pub struct Putter {
+    pub at: usize,
+    pub held: u8,
+    pub room: u8,
+}
+
+// A byte is stored where it fits; past the end it is only counted.
+fn store(destination: &mut [u8], at: usize, byte: u8)
+    ensures { λ r. ⌜ now (destination .exit) ≡ set (now (destination .entry)) at byte ⌝ }
+{
+    if at < destination.len() {
+        destination[at] = byte;
+    }
+}
+
+// A whole byte, "with 00 after FF"; the count of bytes then.
+fn put_byte(destination: &mut [u8], at: usize, byte: u8) -> usize
+    requires { ⌜ at < 2 ^ 62 ⌝ }
+    ensures { λ r. ⌜ (now (destination .exit) ≡ sets (now (destination .entry)) at (stuffed byte [])) × (r ≡ at + length (stuffed byte [])) ⌝ }
+{
+    store(destination, at, byte);
+    if byte == 255 {
+        store(destination, at + 1, 0);
+        return at + 2;
+    }
+    at + 1
+}
+
+// One bit.
+pub fn put_bit(destination: &mut [u8], p: Putter, bit: bool) -> Putter
+    requires { ⌜ Sound p ⌝ }
+    requires { ⌜ p .at < 2 ^ 62 ⌝ }
+    ensures { λ r. ⌜ Puts (now (destination .entry)) (now (destination .exit)) p r (bit ∷ []) ⌝ }
+{
+    let room = p.room;
+    let held = ((p.held & 127) << 1) | (bit as u8);
+    if room == 0 {
+        let at = put_byte(destination, p.at, held);
+        return Putter {
+            at,
+            held: 0,
+            room: 7,
+        };
+    }
+    Putter {
+        at: p.at,
+        held,
+        room: room - 1,
+    }
+}
+
+// The bits in hand, then ones.
+fn fill_up(held: u8, room: u8) -> u8
+    requires { ⌜ (room ≤ 7) × (held < 2 ^ (7 - room)) ⌝ }
+    ensures { λ r. ⌜ r ≡ padded held room ⌝ }
+{
+    let mut h = held;
+    let mut m = room;
+    while 0 < m {
+        h = 2 * h + 1;
+        m -= 1;
+    }
+    2 * h + 1
+}
+
+// "Its padding is ones": the last byte, and how many bytes there are.
+pub fn put_end(destination: &mut [u8], p: Putter) -> usize
+    requires { ⌜ Sound p ⌝ }
+    requires { ⌜ p .at < 2 ^ 62 ⌝ }
+    ensures { λ r. ⌜ Ends (now (destination .entry)) (now (destination .exit)) p r ⌝ }
+{
+    if p.room == 7 {
+        return p.at;
+    }
+    let last = fill_up(p.held, p.room);
+    put_byte(destination, p.at, last)
+}
