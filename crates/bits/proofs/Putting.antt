@@ -160,3 +160,24 @@ module _ {before after last : List ℕ} {p : Putter} {bits : List Bool} {count :
   all-stored h =
       let z : 0 + length (bytesOf bits) ≡ length (bytesOf bits) = omega arith in
       ap (λ (w : Written). w .memory) whole ∙ sets-eq (bytesOf bits) before 0 (omega arith) ∙ ap (λ (n : ℕ). bytesOf bits ++ drop n before) z
+
+-- ---- a loop that puts bits: those still to put come to what all of them come to
+
+pub record Going (before memory : List ℕ) (p q : Putter) (rest all : List Bool) : Type 0 where
+  pub same : (more : List Bool) → finishing memory q (rest ++ more) ≡ finishing before p (all ++ more)
+  pub sound : Sound q
+  pub near : q .at + 2 * length rest ≤ p .at + 2 * length all
+
+pub going-start : {before : List ℕ} {p : Putter} {all : List Bool} → Sound p → Going before before p p all all
+going-start s = record { same = λ more. refl; sound = s; near = omega arith }
+
+pub going-turn : {before memory after : List ℕ} {p q r : Putter} {all : List Bool} (xs rest : List Bool) → Going before memory p q (xs ++ rest) all
+    → Puts memory after q r xs → Going before after p r rest all
+going-turn {before} {memory} {after} {p} {q} {r} {all} xs rest g f = record {
+  same = λ more. f .same (rest ++ more) ∙ ap (finishing memory q) (sym (append-assoc xs rest more)) ∙ g .same more;
+  sound = f .sound;
+  near = omega (arith, g .near, f .near, length-append xs rest);
+}
+
+pub going-end : {before memory : List ℕ} {p q : Putter} {all : List Bool} → Going before memory p q [] all → Puts before memory p q all
+going-end g = record { same = g .same; sound = g .sound; near = omega (arith, g .near) }

@@ -53,7 +53,7 @@ padded-digits c (suc m) q =
 
 -- ---- a byte
 
-in-hand : (a r : List Bool) (d : List ℕ) (n : ℕ) → Gives (source (a ++ r) d n) a (source r d n)
+pub in-hand : (a r : List Bool) (d : List ℕ) (n : ℕ) → Gives (source (a ++ r) d n) a (source r d n)
 unfolding takeBit takeFrom
 in-hand [] r d n = refl
 in-hand (b ∷ a) r d n = (source (a ++ r) d n, refl, in-hand a r d n)

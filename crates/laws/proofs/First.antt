@@ -1,6 +1,6 @@
 -- Laws of `firstFail`: how a loop makes it, and what a caller reads from it. Assumes nothing.
 use mathlib.Core.Path.{_≡_, refl, sym, ap, subst, _∙_}
-use mathlib.Core.Logic.{⊎-elim}
+use mathlib.Core.Logic.{_⊎_, inl, inr, ⊎-elim}
 use mathlib.Core.Bool.{Bool, true, false}
 use Prim.Native.Nat.{ℕ, zero, suc, _+_, _<_, _≤_}
 use native.Mathlib.Nat.{eq-or-lt-of-le, le-of-suc-le-suc, not-suc-le-zero}
@@ -50,3 +50,18 @@ pub all-pass : (n : ℕ) (test : ℕ → Bool) → ((k : ℕ) → k < n → test
 unfolding firstFail orHere
 all-pass zero test h = refl
 all-pass (suc n) test h = rw (all-pass n test (λ k l. h k (omega arith)), h n (omega arith))
+
+at-step : (o : Found) (b : Bool) (n i : ℕ) → orHere o b n ≡ At i → (o ≡ At i) ⊎ ((i ≡ n) × (b ≡ false))
+unfolding orHere
+at-step (At j) b n i e = inl e
+at-step Nothing false n i e = inr (cc, refl)
+at-step Nothing true n i e = let z : _≡_ {A = ℕ} 0 1 = cc in let y : ⊥ = omega arith in absurd y
+
+-- what `At i` says, for callers
+pub first-at : (n : ℕ) (test : ℕ → Bool) (i : ℕ) → firstFail n test ≡ At i → (i < n) × (test i ≡ false)
+unfolding firstFail
+first-at zero test i e = let z : _≡_ {A = ℕ} 0 1 = cc in let y : ⊥ = omega arith in absurd y
+first-at (suc n) test i e =
+    ⊎-elim (λ (q : firstFail n test ≡ At i). (let r = first-at n test i q .0 in omega arith, first-at n test i q .1))
+    (λ (q : (i ≡ n) × (test n ≡ false)). (omega (arith, q .0), rw (q .0) (q .1)))
+    (at-step (firstFail n test) (test n) n i e)

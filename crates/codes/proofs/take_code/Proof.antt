@@ -1,0 +1,125 @@
+-- `codes::take_code` meets its contract: what is left to read gives what the whole gives. Assumes nothing.
+use mathlib.Core.Path.{_≡_, sym, ap, _∙_}
+use Prim.Native.Nat.{_+_, _-_, _*_, _<_}
+use lib.ListN.{length}
+use Rattle.bits.specs.Digits.{bin}
+use Rattle.bits.specs.Source.{got, takeBit}
+use Rattle.bits.specs.Code.{sourceOf, takenOf}
+use Rattle.codes.specs.Table.{table}
+use Rattle.codes.specs.Read.{codedOf}
+use Rattle.codes.proofs.Reading.{bin-small, Here, here-first, here-small, here-none, here-stopped, here-room, here-found, here-on}
+use borrow.Author.Needs.{needs}
+use native.Mathlib.Omega.{arith}
+use Rattle.codes.proofs.take_code.Statement.{statement}
+use Rattle.codes.proofs.take_code.Tie as tie
+
+abbrev Inv-loop : tie.InvT-loop
+Inv-loop counts values «data» cursor₀ over₀ place₀ l₀ cursor over place l = Here (table counts values) (sourceOf «data» cursor₀) (sourceOf «data» cursor) over place l
+
+abbrev μ-loop : tie.MeasureT-loop
+μ-loop counts values «data» cursor₀ over₀ place₀ l₀ cursor over place l = length counts - l
+
+loop-holds : tie.Need-loop-holds Inv-loop μ-loop
+loop-holds c = here-first _ (c .before .before .before .pre) _
+
+take-bit-requires : tie.Need-take-bit-requires Inv-loop μ-loop
+take-bit-requires c κs = search needs
+
+enum-known-t : tie.Need-enum-known-t Inv-loop μ-loop
+enum-known-t c = search needs
+
+-- what the code learns of the bit that it took
+took : (c : tie.After-t Inv-loop μ-loop)
+    → takeBit (sourceOf (c .before .before .before .before .before .before .before .before .args .«data» .now) (c .before .before .before .before .loop .cursor)) ≡ got (c .t .given .0 .0) (sourceOf (c .before .before .before .before .before .before .before .before .args .«data» .now) (c .t .given .0 .1 .0))
+unfolding takenOf
+took c = sym (c .before .before .take-bit .ensures) ∙ ap (takenOf _) (c .t .given .1)
+
+mul-over : tie.Need-mul-over Inv-loop μ-loop
+mul-over c = omega (arith, here-small (c .before .before .before .before .before .loop .inv) (c .before .before .before .before .before .before .before .before .before .pre) (c .before .before .before .before .loop-test .taken))
+
+cast-over : tie.Need-cast-over Inv-loop μ-loop
+cast-over c = search needs
+
+add-over : tie.Need-add-over Inv-loop μ-loop
+add-over c = omega (arith, bin-small (c .before .t .given .0 .0), here-small (c .before .before .before .before .before .loop .inv) (c .before .before .before .before .before .before .before .before .before .pre) (c .before .before .before .before .loop-test .taken))
+
+enum-told : tie.Need-enum-told Inv-loop μ-loop
+enum-told c = search needs
+
+returns : tie.Need-returns Inv-loop μ-loop
+unfolding codedOf takenOf
+returns c = here-stopped (c .before .before .before .before .loop .inv) (c .before .before .before .loop-test .taken) (sym (c .before .before .take-bit .ensures) ∙ ap (takenOf _) (c .enum-told .given .1))
+
+enum-told-2 : tie.Need-enum-told-2 Inv-loop μ-loop
+enum-told-2 c = search needs
+
+returns-2 : tie.Need-returns-2 Inv-loop μ-loop
+unfolding codedOf takenOf
+returns-2 c = here-stopped (c .before .before .before .before .loop .inv) (c .before .before .before .loop-test .taken) (sym (c .before .before .take-bit .ensures) ∙ ap (takenOf _) (c .enum-told2 .given .1))
+
+shared-slice-read-wide : tie.Need-shared-slice-read-wide Inv-loop μ-loop
+shared-slice-read-wide c = search needs
+
+wide-requires : tie.Need-wide-requires Inv-loop μ-loop
+wide-requires c κs = search needs
+
+add-t21 : tie.Need-add-t21 Inv-loop μ-loop
+add-t21 c =
+    let b = c .before .before .before .before .before .before .before .before in
+    omega (arith, here-room (b .loop .inv) (c .before .before .before .before .before .before .before .loop-test .taken) (took (c .before .before .before .before)) (rw (c .before .wide .ensures .0) at (c .if1 .taken)))
+
+shared-slice-read-t23 : tie.Need-shared-slice-read-t23 Inv-loop μ-loop
+shared-slice-read-t23 c =
+    let b = c .before .before .before .before .before .before .before .before .before in
+    here-room (b .loop .inv) (c .before .before .before .before .before .before .before .before .loop-test .taken) (took (c .before .before .before .before .before)) (rw (c .before .before .wide .ensures .0) at (c .before .if1 .taken))
+
+returns-3 : tie.Need-returns-3 Inv-loop μ-loop
+unfolding codedOf
+returns-3 c =
+    let b = c .before .before .before .before .before .before .before .before .before in
+    here-found (b .loop .inv) (c .before .before .before .before .before .before .before .before .loop-test .taken) (took (c .before .before .before .before .before)) (rw (c .before .before .wide .ensures .0) at (c .before .if1 .taken))
+
+add-place : tie.Need-add-place Inv-loop μ-loop
+add-place c = search needs
+
+add-l : tie.Need-add-l Inv-loop μ-loop
+add-l c = search needs
+
+loop-less : tie.Need-loop-less Inv-loop μ-loop
+loop-less c = search needs
+
+loop-again : tie.Need-loop-again Inv-loop μ-loop
+loop-again c =
+    let b = c .before .before .before .before .before .before .before .before in
+    rw (c .before .wide .ensures .0) (here-on (b .loop .inv) (c .before .before .before .before .before .before .before .loop-test .taken) (took (c .before .before .before .before)) (rw (c .before .wide .ensures .0) at (c .if1 .left)))
+
+returns-4 : tie.Need-returns-4 Inv-loop μ-loop
+unfolding codedOf
+returns-4 c = here-none (c .before .loop .inv) (c .loop-test .left)
+
+pub take-code-spec : {M : Type 1} → statement M
+take-code-spec =
+    tie.close
+    (tie.spec
+    Inv-loop
+    μ-loop
+    loop-holds
+    take-bit-requires
+    enum-known-t
+    mul-over
+    cast-over
+    add-over
+    enum-told
+    returns
+    enum-told-2
+    returns-2
+    shared-slice-read-wide
+    wide-requires
+    add-t21
+    shared-slice-read-t23
+    returns-3
+    add-place
+    add-l
+    loop-less
+    loop-again
+    returns-4)

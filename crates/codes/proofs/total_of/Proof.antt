@@ -1,0 +1,53 @@
+-- `codes::total_of` meets its contract. Assumes nothing.
+use Prim.Native.Nat.{_-_}
+use lib.ListN.{length}
+use Rattle.codes.proofs.Laws.{Summed, sum-turn, sum-end}
+use borrow.Author.Needs.{needs}
+use native.Mathlib.Omega.{arith}
+use Rattle.codes.proofs.total_of.Statement.{statement}
+use Rattle.codes.proofs.total_of.Tie as tie
+
+abbrev Inv-loop : tie.InvT-loop
+Inv-loop counts sum₀ l₀ sum l = Summed counts sum l
+
+abbrev μ-loop : tie.MeasureT-loop
+μ-loop counts sum₀ l₀ sum l = length counts - l
+
+loop-holds : tie.Need-loop-holds Inv-loop μ-loop
+loop-holds c = record { within = omega arith; small = omega arith; same = omega arith }
+
+shared-slice-read-wide : tie.Need-shared-slice-read-wide Inv-loop μ-loop
+shared-slice-read-wide c = search needs
+
+wide-requires : tie.Need-wide-requires Inv-loop μ-loop
+wide-requires c κs = search needs
+
+add-sum : tie.Need-add-sum Inv-loop μ-loop
+add-sum c = search needs
+
+add-l : tie.Need-add-l Inv-loop μ-loop
+add-l c = search needs
+
+loop-less : tie.Need-loop-less Inv-loop μ-loop
+loop-less c = search needs
+
+loop-again : tie.Need-loop-again Inv-loop μ-loop
+loop-again c = sum-turn (c .before .before .before .loop .inv) (c .before .before .loop-test .taken) (c .wide .ensures .0) (c .wide .ensures .1)
+
+returns : tie.Need-returns Inv-loop μ-loop
+returns c = sum-end (c .before .loop .inv) (c .loop-test .left)
+
+pub total-of-spec : {M : Type 1} → statement M
+total-of-spec =
+    tie.close
+    (tie.spec
+    Inv-loop
+    μ-loop
+    loop-holds
+    shared-slice-read-wide
+    wide-requires
+    add-sum
+    add-l
+    loop-less
+    loop-again
+    returns)

@@ -1,0 +1,211 @@
+// Code tables of T.81, Annex C: validity, reading a code, the code of a value (01, "An AC plane has a code table").
+ghost use mathlib.Core.Path.{_≡_};
+ghost use mathlib.Core.Bool.{true};
+ghost use Prim.Native.Nat.{_+_, _*_, _^_, _≤_, _<_};
+ghost use lib.ListN.{length, drop};
+ghost use Rattle.bits.specs.Digits.{digits};
+ghost use Rattle.bits.specs.Code.{sourceOf, Sound, Puts};
+ghost use Rattle.laws.specs.declared.Found.the-variants.{At};
+ghost use Rattle.codes.specs.Table.{table, total, kraft, holds, distinct, goodTable};
+ghost use Rattle.codes.specs.Read.{takeCode, codedOf};
+ghost use Rattle.codes.specs.Write.{placeOf, codeAt};
+ghost use Rattle.codes.specs.Code.{Assigned};
+use bits::Cursor;
+use bits::Putter;
+use bits::Stop;
+use bits::Taken;
+use laws::Found;
+
+pub enum Coded {
+    Value(u8, Cursor),
+    Stopped(Stop),
+}
+
+// A code: its length in bits, and the number that they make.
+pub struct Code {
+    pub size: usize,
+    pub number: u32,
+}
+
+fn wide(x: u8) -> usize
+    ensures { λ r. ⌜ (r ≡ x) × (r < 256) ⌝ }
+{
+    x as usize
+}
+
+// The sum of 16 counts.
+fn total_of(counts: &[u8]) -> usize
+    requires { ⌜ length (now counts) ≡ 16 ⌝ }
+    ensures { λ r. ⌜ r ≡ total (now (counts .entry)) ⌝ }
+{
+    let mut sum = 0;
+    let mut l = 0;
+    while l < counts.len() {
+        sum += wide(counts[l]);
+        l += 1;
+    }
+    sum
+}
+
+// "the sum over lengths l of count times 2^(16-l)"
+fn kraft_of(counts: &[u8]) -> usize
+    requires { ⌜ length (now counts) ≡ 16 ⌝ }
+    ensures { λ r. ⌜ r ≡ kraft (now (counts .entry)) ⌝ }
+{
+    let mut sum = 0;
+    let mut weight = 32768;
+    let mut l = 0;
+    while l < counts.len() {
+        sum += wide(counts[l]) * weight;
+        weight /= 2;
+        l += 1;
+    }
+    sum
+}
+
+// Whether a value stands among the values from an index on.
+fn holds_from(values: &[u8], from: usize, v: u8) -> bool
+    ensures { λ r. ⌜ r ≡ holds v (drop from (now (values .entry))) ⌝ }
+{
+    let mut i = from;
+    while i < values.len() {
+        if values[i] == v {
+            return true;
+        }
+        i += 1;
+    }
+    false
+}
+
+fn all_distinct(values: &[u8]) -> bool
+    ensures { λ r. ⌜ r ≡ distinct (now (values .entry)) ⌝ }
+{
+    let mut i = 0;
+    while i < values.len() {
+        if holds_from(values, i + 1, values[i]) {
+            return false;
+        }
+        i += 1;
+    }
+    true
+}
+
+// Whether a table is one. "Anything else, lengths too, is 10".
+pub fn good_table(counts: &[u8], values: &[u8]) -> bool
+    ensures { λ r. ⌜ r ≡ goodTable (table (now (counts .entry)) (now (values .entry))) ⌝ }
+{
+    if counts.len() != 16 {
+        return false;
+    }
+    if values.len() < 1 {
+        return false;
+    }
+    if 256 < values.len() {
+        return false;
+    }
+    if total_of(counts) != values.len() {
+        return false;
+    }
+    if 65535 < kraft_of(counts) {
+        return false;
+    }
+    all_distinct(values)
+}
+
+// The value of the code that the next bits make.
+pub fn take_code(counts: &[u8], values: &[u8], data: &[u8], c: Cursor) -> Coded
+    requires { ⌜ goodTable (table (now counts) (now values)) ≡ true ⌝ }
+    ensures { λ r. ⌜ codedOf (now («data» .entry)) r ≡ takeCode (table (now (counts .entry)) (now (values .entry))) (sourceOf (now («data» .entry)) c) ⌝ }
+{
+    let mut cursor = c;
+    let mut over = 0;
+    let mut place = 0;
+    let mut l = 0;
+    while l < counts.len() {
+        let t = bits::take_bit(data, cursor);
+        match t {
+            Taken::Bit(b, next) => {
+                over = 2 * over + (b as usize);
+                cursor = next;
+            }
+            Taken::Ended => return Coded::Stopped(Stop { number: 12 }),
+            Taken::Marker => return Coded::Stopped(Stop { number: 13 }),
+        }
+        let n = wide(counts[l]);
+        if over < n {
+            return Coded::Value(values[place + over], cursor);
+        }
+        over -= n;
+        place += n;
+        l += 1;
+    }
+    Coded::Stopped(Stop { number: 14 })
+}
+
+// Where a value stands among the table's.
+pub fn place_of(v: u8, values: &[u8]) -> Found
+    ensures { λ r. ⌜ r ≡ placeOf v (now (values .entry)) ⌝ }
+{
+    let mut i = 0;
+    while i < values.len() {
+        if values[i] == v {
+            return Found::At(i);
+        }
+        i += 1;
+    }
+    Found::Nothing
+}
+
+// The code of the value at a place.
+fn code_at(counts: &[u8], place: usize) -> Code
+    requires { ⌜ (length (now counts) ≡ 16) × (place < total (now counts)) × (place < 256) ⌝ }
+    ensures { λ r. ⌜ Assigned (now (counts .entry)) place r ⌝ }
+{
+    let mut first: usize = 0;
+    let mut k = place;
+    let mut l = 0;
+    while l < counts.len() {
+        let n = wide(counts[l]);
+        if k < n {
+            return Code {
+                size: l + 1,
+                number: (first + k) as u32,
+            };
+        }
+        first = 2 * (first + n);
+        k -= n;
+        l += 1;
+    }
+    Code { size: 0, number: 0 }
+}
+
+// The bits of a number, the highest first.
+pub fn put_digits(destination: &mut [u8], p: Putter, size: usize, number: u32) -> Putter
+    requires { ⌜ Sound p ⌝ }
+    requires { ⌜ (p .at < 2 ^ 61) × (size ≤ 16) ⌝ }
+    ensures { λ r. ⌜ Puts (now (destination .entry)) (now (destination .exit)) p r (digits size number) ⌝ }
+{
+    let mut q = p;
+    let mut left = size;
+    while 0 < left {
+        left -= 1;
+        q = bits::put_bit(destination, q, (number >> left) & 1 == 1);
+    }
+    q
+}
+
+// The code of a value that the table holds.
+pub fn put_code(
+    destination: &mut [u8],
+    p: Putter,
+    counts: &[u8],
+    values: &[u8],
+    place: usize,
+) -> Putter
+    requires { ⌜ Sound p ⌝ }
+    requires { ⌜ (p .at < 2 ^ 61) × (goodTable (table (now counts) (now values)) ≡ true) × (place < length (now values)) ⌝ }
+    ensures { λ r. ⌜ Puts (now (destination .entry)) (now (destination .exit)) p r (codeAt (now (counts .entry)) 0 1 place) ⌝ }
+{
+    let code = code_at(counts, place);
+    put_digits(destination, p, code.size, code.number)
+}
