@@ -8,7 +8,8 @@ use native.Mathlib.Numerals.{add-one}
 use native.Mathlib.Omega.{arith}
 use lib.ListN.{length, set, drop, replicate, length-set}
 use lib.Seq.{drop-length}
-use Rattle.answers.specs.Verdict.{Verdict, given, refused, refusal, need, unless, answerOf, outcomeOf, leaves, Meets, Tried}
+use borrow.Author.Tests.{le-leb, lt-leb}
+use Rattle.answers.specs.Verdict.{Verdict, given, refused, refusal, need, unless, fitting, answerOf, outcomeOf, leaves, Meets, Tried}
 use Rattle.answers.specs.declared.Refusal.{Refusal}
 use Rattle.answers.specs.declared.Answer.{Answer}
 use Rattle.answers.specs.declared.Outcome.{Outcome}
@@ -39,6 +40,15 @@ module _ {A : Type 0} {z : A} {v : Verdict A} {before after : List A} {o : Outco
       → length after ≡ length before → last ≡ replicate (length after) z → Meets z v before last a
   meets-refused {r} {a} {last} t g e n h =
       record { answered = e ∙ ap answerOf (t .came); held = h ∙ ap (λ (k : ℕ). replicate k z) n ∙ sym (zeros-held z before v (sym (t .came) ∙ g)) }
+
+-- ---- values that are handed out where they fit
+
+module _ {A : Type 0} {z : A} {before after : List A} (room : ℕ) (ys : List A) {count : ℕ} (e : count ≡ length ys) where
+  pub fitting-given : count ≤ room → after ≡ ys ++ drop (length ys) before → Tried z (fitting room ys) before after (Given count)
+  fitting-given h m = tried-given {ys = ys} (ap Given e) (rw (le-leb (length ys) room (omega arith))) m
+
+  pub fitting-short : {o : Outcome} → room < count → o ≡ Refused (refusal 9 count) → Tried z (fitting room ys) before after o
+  fitting-short h q = tried-refused {r = refusal 9 count} q (rw (lt-leb (length ys) room (omega arith), e))
 
 -- ---- filling with one value
 

@@ -1,7 +1,7 @@
 -- The laws of a table's tests, in the terms that the code leaves. Assumes nothing.
 use mathlib.Core.Path.{_≡_, refl, sym, ap, subst, _∙_}
 use mathlib.Core.List.{List, [], _∷_}
-use mathlib.Core.Bool.{Bool, true, false, cond}
+use mathlib.Core.Bool.{Bool, true, false}
 use Prim.Native.Nat.{ℕ, zero, suc, _+_, _-_, _*_, _/_, _^_, _≤_, _<_}
 use native.Mathlib.Nat.{le-of-suc-le-suc, mul-le-mul, pow-suc}
 use native.Mathlib.Numerals.{add-one}
@@ -122,7 +122,3 @@ good T e =
 
 pub weigh-start : (ns : List ℕ) → length ns ≡ 16 → Weighed ns 0 32768 0
 weigh-start ns e = record { within = omega arith; small = omega arith; light = omega arith; power = rw e; same = omega arith }
-
-pub last-test : (b : Bool) → b ≡ cond b true false
-last-test true = refl
-last-test false = refl

@@ -3,7 +3,7 @@ use mathlib.Core.Path.{_≡_, sym, _∙_}
 use Rattle.laws.specs.Index.{every}
 use borrow.Author.Tests.{eq-eqb, ne-eqb, le-leb, lt-leb}
 use Rattle.codes.specs.Table.{goodTable}
-use Rattle.codes.proofs.Laws.{last-test}
+use Rattle.laws.proofs.Lists.{last-test}
 use borrow.Author.Needs.{needs}
 use Rattle.codes.proofs.good_table.Statement.{statement}
 use Rattle.codes.proofs.good_table.Tie as tie

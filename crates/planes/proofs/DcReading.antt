@@ -1,0 +1,82 @@
+-- The loop over DC blocks: what is left to read, behind the values read so far, is the whole. Assumes nothing.
+use mathlib.Core.Path.{_≡_, refl, sym, ap, subst, _∙_}
+use mathlib.Core.Bool.{Bool}
+use mathlib.Core.List.{List, [], _∷_, _++_, append-assoc, append-nil}
+use Prim.Native.Nat.{ℕ, zero, suc, _+_, _-_, _≤_, _<_}
+use native.Mathlib.Numerals.{add-one}
+use native.Mathlib.Omega.{arith}
+use lib.IntN.{ℤ, pos}
+use lib.ListN.{length, getD, take, drop, set, length-set, drop-of-length-le}
+use lib.Seq.{drop-cons, drop-set-lt, take-suc-set, drop-drop}
+use Rattle.answers.specs.Verdict.{refusal}
+use Rattle.bits.specs.Source.{Source, start, got, stopped, takeBit}
+use Rattle.bits.specs.Code.{sourceOf, highs}
+use Rattle.bits.specs.declared.Stop.{Stop}
+use Rattle.bits.specs.declared.Cursor.{Cursor}
+use Rattle.planes.specs.Plane.{Plane, read, broken, onto}
+use Rattle.planes.specs.Dc.{newDc, dcBlocks}
+use Rattle.planes.specs.Code.{planeOf, Ran}
+use Rattle.planes.specs.declared.Blocks.the-variants.{Read, Broken}
+
+pub onto-none : (p : Plane) → onto [] p ≡ p
+unfolding onto
+onto-none (read vs s) = refl
+onto-none (broken r) = refl
+
+pub onto-onto : (vs ws : List ℤ) (p : Plane) → onto vs (onto ws p) ≡ onto (vs ++ ws) p
+unfolding onto
+onto-onto vs ws (read us s) = ap (λ (l : List ℤ). read l s) (sym (append-assoc vs ws us))
+onto-onto vs ws (broken r) = refl
+
+-- behind i blocks
+pub record Now (bytes : List ℕ) (values before now : List ℤ) (c : Cursor) (i : ℕ) : Type 0 where
+  pub within : i ≤ length values
+  pub long : length now ≡ length before
+  pub rest : drop i now ≡ drop i before
+  pub same : onto (take i now) (dcBlocks i (drop i values) (sourceOf bytes c)) ≡ dcBlocks 0 values (start bytes)
+
+pub now-first : {bytes : List ℕ} {values before : List ℤ} → Now bytes values before before (record { at = 0; left = 0; byte = 0 }) 0
+unfolding sourceOf highs
+now-first = record { within = omega arith; long = refl; rest = refl; same = onto-none _ }
+
+module _ {bytes : List ℕ} {values before now : List ℤ} {c : Cursor} {i : ℕ} (a : Now bytes values before now c i) where
+  pub now-end : length values ≤ i → Ran bytes (length values) (dcBlocks 0 values (start bytes)) before now (Read c)
+  unfolding planeOf dcBlocks onto
+  now-end h =
+      let e : i ≡ length values = omega (arith, a .within) in
+      let s : onto (take i now) (read [] (sourceOf bytes c)) ≡ dcBlocks 0 values (start bytes) = rw (drop-of-length-le values {i = i} h) at (a .same) in
+      record {
+        same = ap (λ (l : List ℤ). read l (sourceOf bytes c)) (sym (append-nil (take (length values) now))) ∙ subst (λ (k : ℕ). onto (take k now) (read [] (sourceOf bytes c)) ≡ dcBlocks 0 values (start bytes)) e s;
+        kept = subst (λ (k : ℕ). drop k now ≡ drop k before) e (a .rest);
+      }
+
+  module _ (h : i < length values) where
+    next : drop i values ≡ getD values i (pos 0) ∷ drop (suc i) values
+    next = drop-cons values i (pos 0) h
+
+    later : (n m : ℕ) → n ≤ m → (x y : List ℤ) → drop n x ≡ drop n y → drop m x ≡ drop m y
+    later n m l x y e =
+        let k : ℕ = m - n in
+        let z : n + k ≡ m = omega arith in
+        subst (λ (j : ℕ). drop j x ≡ drop j y) z (sym (drop-drop k n x) ∙ ap (λ (l : List ℤ). drop k l) e ∙ drop-drop k n y)
+
+    pub now-stopped : {x : Stop} → takeBit (sourceOf bytes c) ≡ stopped x → Ran bytes (length values) (dcBlocks 0 values (start bytes)) before now (Broken (refusal (x .number) i))
+    unfolding planeOf dcBlocks onto
+    now-stopped e = record {
+      same = rw (next, e) at (a .same);
+      kept = later i (length values) (omega arith) now before (a .rest);
+    }
+
+    pub now-turn : {b : Bool} {d : Cursor} {v : ℤ} → takeBit (sourceOf bytes c) ≡ got b (sourceOf bytes d) → v ≡ newDc (getD values i (pos 0)) b → length values ≤ length before
+        → Now bytes values before (set now i v) d (i + 1)
+    unfolding dcBlocks
+    now-turn {b} {d} {v} e q room =
+        let l : i < length now = omega (arith, a .long) in
+        record {
+          within = omega arith;
+          long = length-set now i v ∙ a .long;
+          rest = drop-set-lt (i + 1) now i v (omega arith) ∙ later i (i + 1) (omega arith) now before (a .rest);
+          same =
+              rw (add-one i, take-suc-set now i v l, q)
+              (sym (onto-onto (take i now) (newDc (getD values i (pos 0)) b ∷ []) (dcBlocks (suc i) (drop (suc i) values) (sourceOf bytes d))) ∙ (rw (next, e) at (a .same)));
+        }

@@ -1,0 +1,4 @@
+pub mod Ranges
+pub mod Closing
+pub mod DcReading
+pub mod DcWriting

@@ -1,0 +1,118 @@
+-- `planes::try_read_dc` meets its contract: the refusals in their order. Assumes nothing.
+use mathlib.Core.Path.{_≡_, sym, ap, _∙_}
+use mathlib.Core.Bool.{true, false}
+use Prim.Native.Nat.{_-_, _≤_}
+use lib.ListN.{length}
+use borrow.Author.Tests.{not-true, not-false, eq-eqb, ne-eqb, le-leb, lt-leb}
+use Rattle.laws.specs.Index.{every}
+use Rattle.answers.proofs.Laws.{tried-refused}
+use Rattle.levels.proofs.Ranges.{all-small}
+use Rattle.planes.specs.Plane.{readable}
+use Rattle.planes.specs.Dc.{readDc}
+use Rattle.planes.proofs.Ranges.{Ranged, ranged}
+use Rattle.planes.proofs.Closing.{closing}
+use native.Mathlib.Omega.{arith}
+use borrow.Author.Needs.{needs}
+use Rattle.planes.proofs.try_read_dc.Statement.{statement}
+use Rattle.planes.proofs.try_read_dc.Tie as tie
+
+in-ranges-requires : tie.Need-in-ranges-requires
+in-ranges-requires c κs = search needs
+
+refuse-requires : tie.Need-refuse-requires
+refuse-requires c κs = search needs
+
+returns : tie.Need-returns
+unfolding readDc
+returns c = tried-refused (c .refuse .ensures) (rw (sym (c .before .before .in-ranges .ensures) ∙ not-true _ (c .before .if1 .taken)))
+
+refuse-requires-2 : tie.Need-refuse-requires-2
+refuse-requires-2 c κs = search needs
+
+-- the counts are good
+counts : (c : tie.Else1) → every (readable (c .before .before .before .args .plane) (c .before .before .before .args .blocks)) ≡ true
+counts c = sym (c .before .in-ranges .ensures) ∙ not-false _ (c .if1 .left)
+
+good : (c : tie.Else1) → Ranged (c .before .before .before .args .plane) (c .before .before .before .args .blocks)
+good c = ranged (c .before .before .before .args .plane) (c .before .before .before .args .blocks) (counts c)
+
+returns-2 : tie.Need-returns-2
+unfolding readDc
+returns-2 c = tried-refused (c .refuse2 .ensures) (rw (counts (c .before .before), ne-eqb _ _ (c .before .if2 .taken)))
+
+sub-level : tie.Need-sub-level
+sub-level c = let r = good (c .before) in omega arith
+
+cast-level : tie.Need-cast-level
+cast-level c = search needs
+
+first-outside-requires : tie.Need-first-outside-requires
+first-outside-requires c κs = let r = good (c .before) in omega arith
+
+enum-known-i : tie.Need-enum-known-i
+enum-known-i c = search needs
+
+refuse-requires-3 : tie.Need-refuse-requires-3
+refuse-requires-3 c κs = search needs
+
+returns-3 : tie.Need-returns-3
+unfolding readDc
+returns-3 c =
+    let f = c .before .before .before .before in
+    tried-refused (c .refuse3 .ensures) (rw (counts (f .before .before), eq-eqb _ _ (f .before .if2 .left), sym (f .first-outside .ensures) ∙ c .before .before .i .given .1))
+
+enum-told : tie.Need-enum-told
+enum-told c = search needs
+
+refuse-requires-4 : tie.Need-refuse-requires-4
+refuse-requires-4 c κs = search needs
+
+returns-4 : tie.Need-returns-4
+unfolding readDc
+returns-4 c =
+    let f = c .before .before .before .before in
+    tried-refused (c .refuse4 .ensures)
+    (rw (counts (f .before .before), eq-eqb _ _ (f .before .if2 .left), sym (f .first-outside .ensures) ∙ c .before .before .enum-told .given .1, lt-leb _ _ (c .before .if3 .taken)))
+
+read-dc-blocks-requires : tie.Need-read-dc-blocks-requires
+read-dc-blocks-requires c κs =
+    let f = c .before .before .before .before in
+    let r = good (f .before .before) in
+    (all-small _ _ _ (omega arith) (sym (f .first-outside .ensures) ∙ c .before .before .enum-told .given .1), omega arith)
+
+close-plane-requires : tie.Need-close-plane-requires
+close-plane-requires c κs = search needs
+
+same-length : tie.Need-same-length
+same-length c = search needs
+
+returns-5 : tie.Need-returns-5
+unfolding readDc
+returns-5 c =
+    let f = c .before .before .before .before .before .before .before in
+    let n = f .before .if2 .left in
+    rw (counts (f .before .before), eq-eqb _ _ n, sym (f .first-outside .ensures) ∙ c .before .before .before .before .before .enum-told .given .1, le-leb _ _ (c .before .before .before .before .if3 .left))
+    (closing (rw n at (c .before .before .read-dc-blocks .ensures)) (omega (arith, c .before .before .read-dc-blocks .kept .1 .1 .0)) (c .close-plane .ensures))
+
+pub try-read-dc-spec : {M : Type 1} → statement M
+try-read-dc-spec =
+    tie.close
+    (tie.spec
+    in-ranges-requires
+    refuse-requires
+    returns
+    refuse-requires-2
+    returns-2
+    sub-level
+    cast-level
+    first-outside-requires
+    enum-known-i
+    refuse-requires-3
+    returns-3
+    enum-told
+    refuse-requires-4
+    returns-4
+    read-dc-blocks-requires
+    close-plane-requires
+    same-length
+    returns-5)

@@ -1,0 +1,6 @@
+pub mod Plane
+pub mod Dc
+pub mod Task
+pub mod AcRead
+pub mod AcWrite
+pub mod Code
