@@ -8,7 +8,14 @@ ghost use Rattle.planes.specs.Dc.{readDc, writeDc};
 
 // A DC plane read: level plane-1 values to level plane.
 #[no_mangle]
-pub extern "C" fn xt_read_dc_plane(plane: u32, blocks: usize, data: &[u8], values: &[i32], destination: &mut [i32], place: &mut u64) -> u32
+pub extern "C" fn xt_read_dc_plane(
+    plane: u32,
+    blocks: usize,
+    data: &[u8],
+    values: &[i32],
+    destination: &mut [i32],
+    place: &mut u64,
+) -> u32
     ensures { λ r. ⌜ Meets (pos 0) (readDc plane blocks (now (values .entry)) (now («data» .entry)) (length (now (destination .entry)))) (now (destination .entry)) (now (destination .exit)) (record { number = r; place = now (place .exit) }) ⌝ }
 {
     let a = planes::read_dc(plane, blocks, data, values, destination);
@@ -18,7 +25,13 @@ pub extern "C" fn xt_read_dc_plane(plane: u32, blocks: usize, data: &[u8], value
 
 // A DC plane written.
 #[no_mangle]
-pub extern "C" fn xt_write_dc_plane(plane: u32, blocks: usize, values: &[i32], destination: &mut [u8], place: &mut u64) -> u32
+pub extern "C" fn xt_write_dc_plane(
+    plane: u32,
+    blocks: usize,
+    values: &[i32],
+    destination: &mut [u8],
+    place: &mut u64,
+) -> u32
     ensures { λ r. ⌜ Meets 0 (writeDc plane blocks (now (values .entry)) (length (now (destination .entry)))) (now (destination .entry)) (now (destination .exit)) (record { number = r; place = now (place .exit) }) ⌝ }
 {
     let a = planes::write_dc(plane, blocks, values, destination);
