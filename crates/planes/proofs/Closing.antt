@@ -1,13 +1,13 @@
 -- How the blocks that the code read come to the verdict on the plane. Assumes nothing.
 use mathlib.Core.Path.{_≡_, refl, sym, ap, subst, _∙_}
 use mathlib.Core.Bool.{Bool, true, false, cond}
-use mathlib.Core.List.{List, [], _∷_, _++_}
+use mathlib.Core.List.{List, [], _++_}
 use Prim.Native.Nat.{ℕ, _≤_}
 use native.Mathlib.Omega.{arith}
 use lib.IntN.{ℤ, pos}
 use lib.ListN.{length, take, drop, replicate, take-append-drop}
 use lib.Seq.{length-take-le}
-use Rattle.answers.specs.Verdict.{Verdict, given, refused, refusal, outcomeOf, leaves, Tried}
+use Rattle.answers.specs.Verdict.{given, refused, refusal, outcomeOf, leaves, Tried}
 use Rattle.answers.specs.declared.Refusal.{Refusal}
 use Rattle.answers.specs.declared.Outcome.{Outcome}
 use Rattle.answers.specs.declared.Outcome.the-variants.{Given, Refused}
@@ -15,7 +15,7 @@ use Rattle.bits.specs.Source.{source, onlyPadding}
 use Rattle.bits.specs.Code.{sourceOf}
 use Rattle.bits.specs.declared.Cursor.{Cursor}
 use Rattle.bits.proofs.Trip.{padding-left}
-use Rattle.planes.specs.Plane.{Plane, read, broken, closed}
+use Rattle.planes.specs.Plane.{Plane, read, closed}
 use Rattle.planes.specs.Code.{planeOf, Ran, Closes}
 use Rattle.planes.specs.declared.Blocks.{Blocks}
 use Rattle.planes.specs.declared.Blocks.the-variants.{Read, Broken}

@@ -1,27 +1,26 @@
 -- What the DC writer writes, the DC reader reads: one plane, and then k planes on a base. Assumes nothing.
-use mathlib.Core.Path.{_≡_, refl, sym, ap, _∙_}
+use mathlib.Core.Path.{_≡_, sym, ap, _∙_}
 use mathlib.Core.Bool.{Bool, true, false, not}
 use mathlib.Core.List.{List, [], _∷_, map}
 use mathlib.Core.Option.{some}
-use Prim.Native.Nat.{ℕ, zero, suc, _+_, _-_, _*_, _/_, _%_, _^_, _≤_, _<_}
+use Prim.Native.Nat.{ℕ, suc, _+_, _-_, _*_, _/_, _%_, _≤_, _<_}
 use native.Mathlib.Omega.{arith}
 use lib.Dec.{eqb, ltb}
-use lib.IntN.{ℤ, pos, negsuc, _+ℤ_, _*ℤ_}
+use lib.IntN.{ℤ, pos, negsuc}
 use lib.ListN.{length, replicate, length-map}
 use borrow.Author.Tests.{lt-ltb, le-leb, eqb-true, eq-eqb}
 use Rattle.laws.specs.Index.{every}
 use Rattle.laws.specs.declared.Found.the-variants.{Nothing}
-use Rattle.answers.specs.Verdict.{Verdict, given}
+use Rattle.answers.specs.Verdict.{given}
 use Rattle.answers.proofs.Given.{need-given, unless-given, fitting-given-same, fits}
 use Rattle.levels.specs.Level.{inLevel, isDc, firstOutside}
 use Rattle.levels.specs.declared.Part.the-variants.{Dc}
 use Rattle.bits.specs.Digits.{bin, odd}
 use Rattle.bits.specs.Source.{Source, source, start}
-use Rattle.bits.specs.Pack.{bytesOf}
 use Rattle.bits.specs.Gives.{Gives}
 use Rattle.bits.proofs.Trip.{bytes-say}
 use Rattle.codes.proofs.Trip.{bin-odd, halve}
-use Rattle.planes.specs.Plane.{readable, writable, Plane, read, onto, closed}
+use Rattle.planes.specs.Plane.{writable, read, onto, closed}
 use Rattle.planes.specs.Dc.{newDc, dcBlocks, readDc, dcHalf, dcBit, dcBytes, writeDc}
 use Rattle.planes.specs.Levels.{downward, atLevel, accepted, climb}
 use Rattle.planes.proofs.Ranges.{ranged}

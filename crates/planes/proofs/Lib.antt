@@ -5,3 +5,5 @@ pub mod DcWriting
 pub mod Levels
 pub mod DcTrip
 pub mod Cases
+pub mod AcTokens
+pub mod AcTrip
