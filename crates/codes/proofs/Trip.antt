@@ -28,7 +28,7 @@ use Rattle.codes.specs.Write.{placeOf, codeAt, word}
 use Rattle.codes.specs.Code.{Assigned}
 use Rattle.codes.proofs.Laws.{good, total-on, total-end}
 
-bin-odd : (n : ℕ) → bin (odd n) ≡ n % 2
+pub bin-odd : (n : ℕ) → bin (odd n) ≡ n % 2
 bin-odd n = go (eqb (n % 2) 1) refl
   where
     go : (b : Bool) → odd n ≡ b → bin b ≡ n % 2

@@ -511,8 +511,10 @@ fn main() {
     let mut other = [0i32; 65536];
     let mut output = [0i32; 65536];
     let mut coded = [0u8; 100000];
-    if got <= 400000 {
-        run_all(
+    if 400000 < got {
+        return;
+    }
+    run_all(
             &file[0..got],
             &mut all,
             &mut right,
