@@ -489,14 +489,12 @@ fn line(group: u64, right: u64, all: u64) {
     io::write_all(1, b" right\n");
 }
 
-fn report(all: &[u64], right: &[u64]) {
+fn report(all: &[u64; 64], right: &[u64; 64]) {
     let mut group = 0;
-    while group < all.len() {
-        if group < right.len() {
-            let n = all[group];
-            if 0 < n {
-                line(group as u64, right[group], n);
-            }
+    while group < 64 {
+        let n = all[group];
+        if 0 < n {
+            line(group as u64, right[group], n);
         }
         group += 1;
     }
@@ -515,14 +513,13 @@ fn main() {
         return;
     }
     run_all(
-            &file[0..got],
-            &mut all,
-            &mut right,
-            &mut values,
-            &mut other,
-            &mut output,
-            &mut coded,
-        );
-    }
-    report(&all[0..64], &right[0..64]);
+        &file[0..got],
+        &mut all,
+        &mut right,
+        &mut values,
+        &mut other,
+        &mut output,
+        &mut coded,
+    );
+    report(&all, &right);
 }

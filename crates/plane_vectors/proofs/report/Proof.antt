@@ -1,15 +1,14 @@
 -- `plane_vectors::report` is safe. Assumes nothing.
 use Prim.Native.Nat.{_≤_, _-_}
-use lib.ListN.{length}
 use borrow.Author.Needs.{needs}
 use Rattle.plane_vectors.proofs.report.Statement.{statement}
 use Rattle.plane_vectors.proofs.report.Tie as tie
 
 abbrev Inv-loop : tie.InvT-loop
-Inv-loop all right group₀ group = group ≤ length all
+Inv-loop all right group₀ group = group ≤ 64
 
 abbrev μ-loop : tie.MeasureT-loop
-μ-loop all right group₀ group = length all - group
+μ-loop all right group₀ group = 64 - group
 
 loop-holds : tie.Need-loop-holds Inv-loop μ-loop
 loop-holds c = search needs
@@ -17,14 +16,14 @@ loop-holds c = search needs
 mul-n : tie.Need-mul-n Inv-loop μ-loop
 mul-n c = search needs
 
-shared-slice-read-n : tie.Need-shared-slice-read-n Inv-loop μ-loop
-shared-slice-read-n c = search needs
+element-copy-out-n : tie.Need-element-copy-out-n Inv-loop μ-loop
+element-copy-out-n c = search needs
 
 mul-line : tie.Need-mul-line Inv-loop μ-loop
 mul-line c = search needs
 
-shared-slice-read-line : tie.Need-shared-slice-read-line Inv-loop μ-loop
-shared-slice-read-line c = search needs
+element-copy-out-line : tie.Need-element-copy-out-line Inv-loop μ-loop
+element-copy-out-line c = search needs
 
 line-requires : tie.Need-line-requires Inv-loop μ-loop
 line-requires c κs = search needs
@@ -49,9 +48,9 @@ report-spec =
     μ-loop
     loop-holds
     mul-n
-    shared-slice-read-n
+    element-copy-out-n
     mul-line
-    shared-slice-read-line
+    element-copy-out-line
     line-requires
     add-group
     loop-less
