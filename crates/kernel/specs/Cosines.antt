@@ -1,10 +1,11 @@
 -- The kernel K(x,u) from nine cosines (01, "Inverse transform").
 use mathlib.Core.Bool.{cond}
 use mathlib.Core.List.{List, [], _∷_}
-use Prim.Native.Nat.{ℕ, zero, suc, _+_, _-_, _*_, _%_}
+use Prim.Native.Nat.{ℕ, zero, suc, _+_, _-_, _*_, _/_, _%_}
 use lib.Dec.{leb}
 use lib.IntN.{ℤ, pos, negℤ}
 use lib.ListN.{getD}
+use Rattle.laws.specs.Index.{tab}
 
 -- "these values of cos(m pi/16), m = 0 to 8"
 unfoldable pub nineCosines : List ℕ
@@ -22,3 +23,7 @@ fullTurn m = cond (leb m 16) (halfTurn m) (halfTurn (32 - m))
 unfoldable pub kernel : ℕ → ℕ → ℤ
 kernel x zero = pos 5793
 kernel x (suc u) = fullTurn ((2 * x + 1) * suc u % 32)
+
+-- all of it, K(x,u) at 8x + u
+unfoldable pub kernelTable : List ℤ
+kernelTable = tab 64 (λ k. kernel (k / 8) (k % 8))

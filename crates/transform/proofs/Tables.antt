@@ -1,15 +1,15 @@
 -- The source's tables are the rules of the definitions. Assumes nothing.
-use mathlib.Core.Path.{_≡_, refl, ap, _∙_}
+use mathlib.Core.Path.{_≡_, refl}
 use mathlib.Core.Bool.{not}
 use mathlib.Core.List.{List, [], _∷_}
 use Prim.Native.Nat.{ℕ, suc, _+_, _^_, _<_, _≤_}
 use native.Mathlib.Omega.{arith}
 use lib.Dec.{T, eqb, leb, leb→le}
 use lib.IntN.{ℤ, pos, natAbs}
-use lib.ListN.{getD}
+use lib.ListN.{length, getD}
 use Rattle.laws.specs.Index.{tab}
-use Rattle.laws.proofs.Lists.{getD-tab, allBelow, each}
-use Rattle.transform.specs.Zigzag.{firstRow, lastRow, placesBefore, zigzag, zigzagAt}
+use Rattle.laws.proofs.Lists.{length-tab, getD-tab, allBelow, each}
+use Rattle.transform.specs.Zigzag.{firstRow, lastRow, placesBefore, zigzag, zigzagAt, zigzagOrder}
 use Rattle.transform.specs.Picture.{centre}
 
 -- ---- the zigzag order
@@ -26,12 +26,17 @@ figure =
     ∷ 21 ∷ 34 ∷ 37 ∷ 47 ∷ 50 ∷ 56 ∷ 59 ∷ 61
     ∷ 35 ∷ 36 ∷ 48 ∷ 49 ∷ 57 ∷ 58 ∷ 62 ∷ 63 ∷ []
 
-figure-is : figure ≡ tab 64 zigzagAt
-unfolding tab zigzagAt zigzag placesBefore firstRow lastRow
+pub figure-is : figure ≡ zigzagOrder
+unfolding zigzagOrder tab zigzagAt zigzag placesBefore firstRow lastRow
 figure-is = refl
 
-pub zigzag-in : (p : ℕ) → p < 64 → getD figure p 0 ≡ zigzagAt p
-zigzag-in p h = ap (λ (l : List ℕ). getD l p 0) figure-is ∙ getD-tab 64 zigzagAt 0 p h
+pub order-long : length zigzagOrder ≡ 64
+unfolding zigzagOrder
+order-long = length-tab 64 zigzagAt
+
+pub order-at : (p : ℕ) → p < 64 → getD zigzagOrder p 0 ≡ zigzagAt p
+unfolding zigzagOrder
+order-at p h = getD-tab 64 zigzagAt 0 p h
 
 pub zigzag-small : (p : ℕ) → p < 64 → zigzagAt p < 64
 unfolding zigzagAt zigzag placesBefore firstRow lastRow

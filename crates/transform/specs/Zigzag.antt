@@ -1,7 +1,9 @@
 -- The zigzag order (01: "in zigzag order"; T.81, Figure 5), by its rule: along the anti-diagonals, to and fro.
 use mathlib.Core.Bool.{cond}
+use mathlib.Core.List.{List}
 use Prim.Native.Nat.{ℕ, zero, suc, _+_, _-_, _/_, _%_, min}
 use lib.Dec.{eqb}
+use Rattle.laws.specs.Index.{tab}
 
 -- anti-diagonal d is where v + u = d; its rows v go from d - 7, or from 0 (a difference below 0 is 0), ..
 unfoldable pub firstRow : ℕ → ℕ
@@ -23,3 +25,7 @@ zigzag v u = placesBefore (v + u) + cond (eqb ((v + u) % 2) 1) (v - firstRow (v 
 -- the same where the 64 places are counted row by row
 unfoldable pub zigzagAt : ℕ → ℕ
 zigzagAt p = zigzag (p / 8) (p % 8)
+
+-- all of it
+unfoldable pub zigzagOrder : List ℕ
+zigzagOrder = tab 64 zigzagAt

@@ -6,7 +6,7 @@ ghost use lib.IntN.{pos, natAbs};
 ghost use lib.ListN.{length, take, drop};
 ghost use Rattle.answers.specs.Verdict.{Meets, Tried};
 ghost use Rattle.kernel.specs.Samples.{blockSamples};
-ghost use Rattle.transform.specs.Zigzag.{zigzagAt};
+ghost use Rattle.transform.specs.Zigzag.{zigzagOrder};
 ghost use Rattle.transform.specs.Picture.{scaled, dequantised, centre, picture, InRange};
 ghost use Rattle.transform.specs.Call.{isQuantiser, firstBadQuantiser, inverseTransform};
 use answers::Answer;
@@ -85,14 +85,6 @@ const ZIGZAG: [usize; 64] = [
 // 2^(7+R).
 const CENTRES: [i64; 5] = [128, 256, 512, 1024, 2048];
 
-// The zigzag index of a place counted row by row.
-fn zigzag_at(p: usize) -> usize
-    requires { ⌜ p < 64 ⌝ }
-    ensures { λ r. ⌜ r ≡ zigzagAt p ⌝ }
-{
-    ZIGZAG[p]
-}
-
 // The sample that a block without frequencies has.
 fn centre(refinement: usize) -> i64
     requires { ⌜ refinement ≤ 4 ⌝ }
@@ -108,15 +100,15 @@ fn scaled(value: i32, quantiser: u16) -> i64
     (value as i64) * (quantiser as i64)
 }
 
-// The 64 products of a block, row by row.
-fn dequantise(values: &[i32], quantisers: &[u16], block: usize, s: &mut [i64])
+// The 64 products of a block, row by row. The order is lent: a constant array is made anew wherever it is named.
+fn dequantise(order: &[usize], values: &[i32], quantisers: &[u16], block: usize, s: &mut [i64])
+    requires { ⌜ (now order ≡ zigzagOrder) × (length (now s) ≡ 64) ⌝ }
     requires { ⌜ (block * 64 + 64 ≤ length (now values)) × (length (now quantisers) ≡ 64) ⌝ }
-    requires { ⌜ length (now s) ≡ 64 ⌝ }
     ensures { λ r. ⌜ now (s .exit) ≡ dequantised (now (values .entry)) (now (quantisers .entry)) block ⌝ }
 {
     let mut p = 0;
     while p < 64 {
-        let z = zigzag_at(p);
+        let z = order[p];
         let i = block * 64 + z;
         let w = scaled(values[i], quantisers[z]);
         s[p] = w;
@@ -136,8 +128,9 @@ fn transform_block(
     requires { ⌜ (block * 64 + 64 ≤ length (now values)) × (block * 64 + 64 ≤ length (now destination)) ⌝ }
     ensures { λ r. ⌜ now (destination .exit) ≡ take (block * 64) (now (destination .entry)) ++ blockSamples (dequantised (now (values .entry)) (now (quantisers .entry)) block) centre ++ drop (block * 64 + 64) (now (destination .entry)) ⌝ }
 {
+    let order = ZIGZAG;
     let mut s = [0i64; 64];
-    dequantise(values, quantisers, block, &mut s);
+    dequantise(&order, values, quantisers, block, &mut s);
     let at = block * 64;
     kernel::write_block(&s, centre, destination, at);
 }

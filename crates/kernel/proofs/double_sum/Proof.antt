@@ -16,10 +16,10 @@ use Rattle.kernel.proofs.double_sum.Statement.{statement}
 use Rattle.kernel.proofs.double_sum.Tie as tie
 
 abbrev Inv-loop : tie.InvT-loop
-Inv-loop s x y sum₀ v₀ sum v = (v ≤ 8) × (toZ w64 sum ≡ sumTo v (rowSum s x y))
+Inv-loop table s x y sum₀ v₀ sum v = (v ≤ 8) × (toZ w64 sum ≡ sumTo v (rowSum s x y))
 
 abbrev μ-loop : tie.MeasureT-loop
-μ-loop s x y sum₀ v₀ sum v = 8 - v
+μ-loop table s x y sum₀ v₀ sum v = 8 - v
 
 loop-holds : tie.Need-loop-holds Inv-loop μ-loop
 loop-holds c = (search needs, sym (sum-none _))
@@ -36,7 +36,7 @@ add-sum c =
     let a = c .before .before .before .args in
     let p = c .before .before .before .pre in
     let v : c .before .before .loop .v + 1 ≤ 8 = omega arith in
-    rw (more c) (fit-in w64 tt (rows-small (a .s .now) (p .0) (a .x) (a .y) (p .1 .0) (p .1 .1) _ v))
+    rw (more c) (fit-in w64 tt (rows-small (a .s .now) (p .0 .1) (a .x) (a .y) (p .1 .0) (p .1 .1) _ v))
 
 add-v : tie.Need-add-v Inv-loop μ-loop
 add-v c = search needs

@@ -51,7 +51,7 @@ module _ (c : tie.After-result) where
   whole-fits =
       let a = c .before .before .before .args in
       let p = c .before .before .before .pre in
-      rw is-product (fit-in w64 tt (product-small (a .s .now) (p .0) (a .x) (a .y) (p .1 .0) (p .1 .1 .0) (a .v) (a .u) (p .1 .1 .1 .0) (p .1 .1 .1 .1)))
+      rw is-product (fit-in w64 tt (product-small (a .s .now) (p .0 .1) (a .x) (a .y) (p .1 .0) (p .1 .1 .0) (a .v) (a .u) (p .1 .1 .1 .0) (p .1 .1 .1 .1)))
 
 mul-result-3 : tie.Need-mul-result-3
 mul-result-3 c = let f = factors-fit (c .before) in let g = whole-fits c in search needs

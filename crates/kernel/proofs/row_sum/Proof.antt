@@ -16,10 +16,10 @@ use Rattle.kernel.proofs.row_sum.Statement.{statement}
 use Rattle.kernel.proofs.row_sum.Tie as tie
 
 abbrev Inv-loop : tie.InvT-loop
-Inv-loop s x y v sum₀ u₀ sum u = (u ≤ 8) × (toZ w64 sum ≡ sumTo u (product s x y v))
+Inv-loop table s x y v sum₀ u₀ sum u = (u ≤ 8) × (toZ w64 sum ≡ sumTo u (product s x y v))
 
 abbrev μ-loop : tie.MeasureT-loop
-μ-loop s x y v sum₀ u₀ sum u = 8 - u
+μ-loop table s x y v sum₀ u₀ sum u = 8 - u
 
 loop-holds : tie.Need-loop-holds Inv-loop μ-loop
 loop-holds c = (search needs, sym (sum-none _))
@@ -36,7 +36,7 @@ add-sum c =
     let a = c .before .before .before .args in
     let p = c .before .before .before .pre in
     let u : c .before .before .loop .u + 1 ≤ 8 = omega arith in
-    rw (more c) (fit-in w64 tt (row-small (a .s .now) (p .0) (a .x) (a .y) (p .1 .0) (p .1 .1 .0) (a .v) _ (p .1 .1 .1) u))
+    rw (more c) (fit-in w64 tt (row-small (a .s .now) (p .0 .1) (a .x) (a .y) (p .1 .0) (p .1 .1 .0) (a .v) _ (p .1 .1 .1) u))
 
 add-u : tie.Need-add-u Inv-loop μ-loop
 add-u c = search needs

@@ -16,7 +16,7 @@ rounded-requires : tie.Need-rounded-requires
 rounded-requires c κs =
     let a = c .before .args in
     let p = c .before .pre in
-    rw (back w64 (c .double-sum .result) (c .double-sum .ok), c .double-sum .ensures, toZ-ofZ (c .before .fits .centre)) (double-small (a .s .now) (p .0) (a .x) (a .y) (p .1 .1 .0) (p .1 .1 .1), p .1 .0)
+    rw (back w64 (c .double-sum .result) (c .double-sum .ok), c .double-sum .ensures, toZ-ofZ (c .before .fits .centre)) (double-small (a .s .now) (p .0 .1) (a .x) (a .y) (p .1 .1 .0) (p .1 .1 .1), p .1 .0)
 
 returns : tie.Need-returns
 unfolding sample
