@@ -2,7 +2,7 @@
 ghost use mathlib.Core.Path.{_≡_};
 ghost use mathlib.Core.List.{_++_};
 ghost use Prim.Native.Nat.{_+_, _^_, _<_, _≤_};
-ghost use lib.IntN.{natAbs};
+ghost use lib.IntN.{pos, natAbs};
 ghost use lib.ListN.{length, take, drop};
 ghost use Rattle.kernel.specs.Cosines.{kernel, kernelTable};
 ghost use Rattle.kernel.specs.Samples.{product, rowSum, doubleSum, rounded, sample, blockSamples, Products};
@@ -124,12 +124,19 @@ fn double_sum(table: &[i64], s: &[i64], x: usize, y: usize) -> i64
     sum
 }
 
-// The one rounding: 2^27 is half of 2^28.
+// What rounds to the nearest: half of 2^28.
+fn half() -> i64
+    ensures { λ r. ⌜ r ≡ pos (2 ^ 27) ⌝ }
+{
+    134217728
+}
+
+// The one rounding.
 pub fn rounded(sum: i64, centre: i64) -> i32
     requires { ⌜ (natAbs sum ≤ 2 ^ 55) × (natAbs centre ≤ 2048) ⌝ }
     ensures { λ r. ⌜ r ≡ rounded sum centre ⌝ }
 {
-    (((sum + 134217728) >> 28) + centre) as i32
+    (((sum + half()) >> 28) + centre) as i32
 }
 
 // The sample at row y, column x.

@@ -1,25 +1,28 @@
 -- `kernel::rounded` meets its contract: each step fits, by its magnitude. Assumes nothing.
 use borrow.Author.Needs.{needs}
-use lib.IntN.{pos, _+ℤ_}
+use lib.IntN.{_+ℤ_}
 use lib.Signed.{shrZ}
 use mir.Syntax.{w32, w64}
 use mir.Val.{SFits}
 use mir.Facts.{toZ-ofZ}
-use Rattle.laws.proofs.Integers.{fit-in, to64}
+use Rattle.laws.proofs.Integers.{back, fit-in, to64}
 use Rattle.kernel.specs.Samples.{rounded}
 use Rattle.kernel.proofs.Bounds.{added-small, floor-small, rounded-small}
 use Rattle.kernel.proofs.rounded.Statement.{statement}
 use Rattle.kernel.proofs.rounded.Tie as tie
 
-module _ (c : tie.Start) where
-  added : SFits w64 (c .args .sum +ℤ pos 134217728)
-  added = fit-in w64 tt (added-small (c .args .sum) (c .pre .0))
+half-requires : tie.Need-half-requires
+half-requires c κs = search needs
 
-  floored : SFits w64 (shrZ (c .args .sum +ℤ pos 134217728) 268435456)
-  floored = fit-in w64 tt (floor-small (c .args .sum) (c .pre .0))
+module _ (c : tie.After-half) where
+  added : SFits w64 (c .before .args .sum +ℤ c .half .result)
+  added = rw (c .half .ensures) (fit-in w64 tt (added-small (c .before .args .sum) (c .before .pre .0)))
 
-  centred : SFits w32 (shrZ (c .args .sum +ℤ pos 134217728) 268435456 +ℤ c .args .centre)
-  centred = fit-in w32 tt (rounded-small (c .args .sum) (c .pre .0) (c .args .centre) (c .pre .1))
+  floored : SFits w64 (shrZ (c .before .args .sum +ℤ c .half .result) 268435456)
+  floored = rw (c .half .ensures) (fit-in w64 tt (floor-small (c .before .args .sum) (c .before .pre .0)))
+
+  centred : SFits w32 (shrZ (c .before .args .sum +ℤ c .half .result) 268435456 +ℤ c .before .args .centre)
+  centred = rw (c .half .ensures) (fit-in w32 tt (rounded-small (c .before .args .sum) (c .before .pre .0) (c .before .args .centre) (c .before .pre .1)))
 
 add-result : tie.Need-add-result
 add-result c = let f = added c in search needs
@@ -32,7 +35,7 @@ cast-result c = let f = added c in let g = floored c in let h = to64 (centred c)
 
 returns : tie.Need-returns
 unfolding rounded
-returns c = rw (toZ-ofZ (c .fits .sum), toZ-ofZ (added c), toZ-ofZ (floored c), toZ-ofZ (c .fits .centre), toZ-ofZ (to64 (centred c)), toZ-ofZ (centred c))
+returns c = rw (toZ-ofZ (c .before .fits .sum), back w64 (c .half .result) (c .half .ok), toZ-ofZ (added c), toZ-ofZ (floored c), toZ-ofZ (c .before .fits .centre), toZ-ofZ (to64 (centred c)), toZ-ofZ (centred c), c .half .ensures)
 
 pub rounded-spec : {M : Type 1} → statement M
-rounded-spec = tie.close (tie.spec add-result add-result-2 cast-result returns)
+rounded-spec = tie.close (tie.spec half-requires add-result add-result-2 cast-result returns)
