@@ -8,7 +8,7 @@ use lib.Signed.{shrZ}
 use Rattle.laws.specs.Index.{sumTo, tab}
 use Rattle.kernel.specs.Cosines.{kernel}
 
--- "K(x,u) K(y,v) S, u the column frequency": s holds S row by row, row frequency v and column frequency u at 8v + u
+-- "K(x,u) K(y,v) S", "u the column frequency": s holds the 64 S row by row, that of row frequency v at 8v + u
 unfoldable pub product : List ℤ → ℕ → ℕ → ℕ → ℕ → ℤ
 product s x y v u = kernel x u *ℤ kernel y v *ℤ getD s (v * 8 + u) (pos 0)
 
@@ -20,7 +20,7 @@ rowSum s x y v = sumTo 8 (product s x y v)
 unfoldable pub doubleSum : List ℤ → ℕ → ℕ → ℤ
 doubleSum s x y = sumTo 8 (rowSum s x y)
 
--- "floor((sum + 2^27) / 2^28)" plus the centre; `shrZ z m` is the floor of z / m
+-- "floor((sum of .. + 2^27) / 2^28) + 2^(7+R)", the last being the centre; `shrZ z m` is the floor of z / m
 unfoldable pub rounded : ℤ → ℤ → ℤ
 rounded sum centre = shrZ (sum +ℤ pos (2 ^ 27)) (2 ^ 28) +ℤ centre
 

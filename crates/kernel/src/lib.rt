@@ -132,7 +132,7 @@ fn half() -> i64
 }
 
 // The one rounding.
-pub fn rounded(sum: i64, centre: i64) -> i32
+fn rounded(sum: i64, centre: i64) -> i32
     requires { ⌜ (natAbs sum ≤ 2 ^ 55) × (natAbs centre ≤ 2048) ⌝ }
     ensures { λ r. ⌜ r ≡ rounded sum centre ⌝ }
 {

@@ -12,7 +12,7 @@ use Rattle.transform.specs.Zigzag.{zigzagAt}
 unfoldable pub scaled : ℤ → ℕ → ℤ
 scaled value quantiser = value *ℤ pos quantiser
 
--- a block's 64 S, row by row: "Quantisers are 64 lent numbers in the same zigzag order", values "64 a block"
+-- a block's 64 S, row by row; values are lent "in zigzag order: 64 a block", quantisers "in the same zigzag order"
 unfoldable pub dequantised : List ℤ → List ℕ → ℕ → List ℤ
 dequantised values quantisers block =
     tab 64 (λ p. scaled (getD values (block * 64 + zigzagAt p) (pos 0)) (getD quantisers (zigzagAt p) 0))

@@ -26,6 +26,6 @@ zigzag v u = placesBefore (v + u) + cond (eqb ((v + u) % 2) 1) (v - firstRow (v 
 unfoldable pub zigzagAt : ℕ → ℕ
 zigzagAt p = zigzag (p / 8) (p % 8)
 
--- all of it
+-- all 64, as T.81 prints them
 unfoldable pub zigzagOrder : List ℕ
 zigzagOrder = tab 64 zigzagAt
