@@ -1,6 +1,6 @@
 -- 01's case e, as one statement over one list. Assumes nothing.
 use mathlib.Core.Path.{_≡_, refl}
-use mathlib.Core.List.{List, [], _∷_, map}
+use mathlib.Core.List.{[], _∷_, map}
 use lib.IntN.{pos, negsuc}
 use lib.ListN.{replicate}
 use Rattle.laws.specs.Index.{sumTo, tab, joinTo, every}

@@ -6,7 +6,7 @@ use lib.IntN.{ℤ, pos, _*ℤ_}
 use lib.ListN.{getD}
 use mir.Syntax.{w64}
 use mir.Val.{SFits}
-use Rattle.laws.proofs.Integers.{fit-in, back}
+use Rattle.laws.proofs.Integers.{fit-in}
 use Rattle.kernel.specs.Samples.{product}
 use Rattle.kernel.proofs.Bounds.{factors-small, product-small}
 use Rattle.kernel.proofs.product.Statement.{statement}
