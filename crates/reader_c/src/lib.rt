@@ -5,6 +5,7 @@ ghost use lib.IntN.{pos};
 ghost use lib.ListN.{length};
 ghost use Rattle.answers.specs.Verdict.{Meets};
 ghost use Rattle.planes.specs.Dc.{readDc, writeDc};
+ghost use Rattle.transform.specs.Call.{inverseTransform};
 
 // A DC plane read: level plane-1 values to level plane.
 #[no_mangle]
@@ -35,6 +36,23 @@ pub extern "C" fn xt_write_dc_plane(
     ensures { λ r. ⌜ Meets 0 (writeDc plane blocks (now (values .entry)) (length (now (destination .entry)))) (now (destination .entry)) (now (destination .exit)) (record { number = r; place = now (place .exit) }) ⌝ }
 {
     let a = planes::write_dc(plane, blocks, values, destination);
+    *place = a.place as u64;
+    a.number
+}
+
+// Dequantising and the inverse transform.
+#[no_mangle]
+pub extern "C" fn xt_inverse_transform(
+    refinement: u32,
+    blocks: usize,
+    values: &[i32],
+    quantisers: &[u16],
+    destination: &mut [i32],
+    place: &mut u64,
+) -> u32
+    ensures { λ r. ⌜ Meets (pos 0) (inverseTransform refinement blocks (now (values .entry)) (now (quantisers .entry)) (length (now (destination .entry)))) (now (destination .entry)) (now (destination .exit)) (record { number = r; place = now (place .exit) }) ⌝ }
+{
+    let a = transform::inverse_transform(refinement, blocks, values, quantisers, destination);
     *place = a.place as u64;
     a.number
 }
