@@ -8,14 +8,15 @@ use Rattle.rounding.specs.Near.{nearest, clip, row}
 use Rattle.pixel.specs.declared.Setting.{Setting}
 use Rattle.pixel.specs.declared.Colour.{Colour}
 use Rattle.pixel.specs.declared.Colour.the-variants.{Identity, Transform}
-use Rattle.pixel.specs.declared.Curve.the-variants.{Straight}
+use Rattle.curves.specs.declared.Curve.the-variants.{Straight}
 use Rattle.pixel.specs.declared.Matrix.{Matrix}
 use Rattle.pixel.specs.declared.Matrix.the-variants.{None, On}
 use Rattle.pixel.specs.declared.Residual.{Residual}
 use Rattle.pixel.specs.declared.Residual.the-variants.{Absent, Present}
 use Rattle.pixel.specs.Pixels.{Pixel, single, triple, each, both}
-use Rattle.pixel.specs.Srgb.{srgb}
-use Rattle.pixel.specs.Steps.{tinted, tints, transform, recolour, firstCentre, stepOne, straight, curved, stepTwo, weighted, matrixed, stepThree, scaled, stepFour, added, alone, joined, stepFive, basis, merged}
+use Rattle.curves.specs.Srgb.{srgb}
+use Rattle.curves.specs.Curves.{straight, curved}
+use Rattle.pixel.specs.Steps.{tinted, tints, transform, recolour, firstCentre, stepOne, stepTwo, weighted, matrixed, stepThree, scaled, stepFour, added, alone, joined, stepFive, basis, merged}
 
 -- a straight merge with three components
 pub straightWith : ℕ → ℕ → ℕ → Colour → Matrix → Residual → Colour → Setting

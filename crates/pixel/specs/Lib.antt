@@ -1,3 +1,2 @@
 pub mod Pixels
-pub mod Srgb
 pub mod Steps

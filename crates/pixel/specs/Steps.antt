@@ -1,25 +1,18 @@
 -- The five steps of the merge for one pixel (01, "Merge"). A transform or a matrix over a single number is refused before any step (20).
-use mathlib.Core.Path.{_≡_}
 use mathlib.Core.List.{List}
-use Prim.Native.Nat.{ℕ, _+_, _-_, _*_, _^_, _≤_}
+use Prim.Native.Nat.{ℕ, _+_, _^_, _≤_}
 use lib.IntN.{ℤ, pos, negℤ, _+ℤ_, _-ℤ_, _*ℤ_}
-use lib.ListN.{length, getD}
-use Rattle.rounding.specs.Near.{nearest, clip, row}
+use lib.ListN.{getD}
+use Rattle.rounding.specs.Near.{nearest, clip, row, top}
+use Rattle.curves.specs.Curves.{curved, Lent}
 use Rattle.pixel.specs.declared.Setting.{Setting}
 use Rattle.pixel.specs.declared.Colour.{Colour}
 use Rattle.pixel.specs.declared.Colour.the-variants.{Identity, Transform}
-use Rattle.pixel.specs.declared.Curve.{Curve}
-use Rattle.pixel.specs.declared.Curve.the-variants.{Straight, Table, Srgb}
 use Rattle.pixel.specs.declared.Matrix.{Matrix}
 use Rattle.pixel.specs.declared.Matrix.the-variants.{None, On}
 use Rattle.pixel.specs.declared.Residual.{Residual}
 use Rattle.pixel.specs.declared.Residual.the-variants.{Absent, Present}
 use Rattle.pixel.specs.Pixels.{Pixel, single, triple, each, both}
-use Rattle.pixel.specs.Srgb.{srgb}
-
--- the largest number of 8 + r bits: 2^(8+r)-1
-abbrev pub top : ℕ → ℕ
-top r = 2 ^ (8 + r) - 1
 
 -- ---- 1. base transform
 
@@ -53,16 +46,6 @@ unfoldable pub stepOne : Setting → Pixel ℤ → Pixel ℕ
 stepOne s p = each (λ v. clip v (top (s .rh))) (recolour (s .«base_transform») (firstCentre (s .rh)) p)
 
 -- ---- 2. base curve
-
--- "straight, nearest to x(2^(8+Rb)-1)/(2^(8+Rh)-1)"
-unfoldable pub straight : ℕ → ℕ → ℕ → ℤ
-straight rb rh x = nearest (pos (x * top rb)) (top rh)
-
--- "straight ..; a lent table of 2^(8+Rh) numbers ..; or the inverse sRGB table"
-unfoldable pub curved : Curve → ℕ → ℕ → List ℕ → ℕ → ℤ
-curved Straight rb rh table x = straight rb rh x
-curved Table rb rh table x = pos (getD table x 0)
-curved Srgb rb rh table x = pos (getD srgb x 0)
 
 unfoldable pub stepTwo : Setting → List ℕ → Pixel ℕ → Pixel ℤ
 stepTwo s table p = each (curved (s .curve) (s .rb) (s .rh) table) p
@@ -121,15 +104,8 @@ merged s table base residual = stepFive s (basis s table base) (stepFour s resid
 
 -- ---- what the steps in code ask of a setting: the ranges, and a curve whose table is there
 
--- "a lent table of 2^(8+Rh) numbers", and no other curve has one
-unfoldable pub entries : Curve → ℕ → ℕ
-entries Straight rh = 0
-entries Table rh = 2 ^ (8 + rh)
-entries Srgb rh = 0
-
 pub record Ready (s : Setting) (table : List ℕ) : Type 0 where
   pub rb-small : s .rb ≤ 8
   pub rh-small : s .rh ≤ 4
   pub rr-small : s .rr ≤ 4
-  pub tabled : length table ≡ entries (s .curve) (s .rh)
-  pub plain : s .curve ≡ Srgb → s .rh ≡ 0
+  pub lent : Lent (s .curve) (s .rh) table

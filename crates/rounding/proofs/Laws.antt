@@ -4,16 +4,16 @@ use mathlib.Core.Path.{_≡_, refl, sym, ap, subst, _∙_}
 use mathlib.Core.Bool.{Bool, true, false}
 use mathlib.Core.List.{List, [], _∷_}
 use Prim.Native.Nat.{ℕ, zero, suc, _+_, _*_, _/_, _%_, _^_, _≤_, _<_, min, zero-le}
-use native.Mathlib.Nat.{div-add-mod, mod-lt, mul-le-mul-left}
+use native.Mathlib.Nat.{div-add-mod, mod-lt, mul-le-mul-left, lt-of-mul-lt-mul-left}
 use native.Mathlib.Omega.{arith}
-use lib.Dec.{T}
+use lib.Dec.{T, leb, leb→le}
 use lib.ListN.{getD}
-use lib.IntN.{ℤ, pos, negsuc, natAbs, _+ℤ_, _*ℤ_}
+use lib.IntN.{ℤ, pos, negsuc, negℤ, natAbs, _+ℤ_, _-ℤ_, _*ℤ_}
 use lib.Signed.{ltZ, nonNeg, shrZ}
-use Rattle.laws.proofs.Integers.{up, dn, sum, prod, eqZ, pos-up, pos-dn, abs, one, abs-sum, abs-prod-le, ≤-to, <-to, ≤-of, <-of, floor-low, floor-high, floor-abs, *ℤ-dist}
+use Rattle.laws.proofs.Integers.{up, dn, sum, prod, eqZ, pos-up, pos-dn, abs, one, abs-sum, abs-neg, abs-prod-le, ≤-to, <-to, ≤-of, <-of, floor-low, floor-high, floor-abs, *ℤ-dist}
 use Rattle.laws.proofs.Floors.{times, floor-is, floor-scale}
 use Rattle.laws.specs.Index.{tab}
-use Rattle.laws.proofs.Lists.{getD-tab}
+use Rattle.laws.proofs.Lists.{getD-tab, each}
 use Rattle.rounding.specs.Near.{nearest, clip, row}
 
 -- ---- nearest
@@ -63,6 +63,19 @@ nearest-small t m h =
     subst (λ (z : ℤ). natAbs z ≤ natAbs t + 1) (sym (nearest-floor t m h))
     (floor-abs (t +ℤ pos (m / 2)) m (natAbs t + 1) h (omega (arith, abs-sum t (pos (m / 2)), mul-le-mul-left (natAbs t) h)))
 
+-- a t between -b m and b m is b at most
+pub nearest-within : (t : ℤ) (m b : ℕ) → 0 < m → natAbs t ≤ b * m → natAbs (nearest t m) ≤ b
+unfolding nearest
+nearest-within t m b h g =
+    let q = nearest t m in
+    let w = pos 2 *ℤ t +ℤ pos m in
+    let low = ≤-to (floor-low w (2 * m) (omega arith)) in
+    let high = <-to (floor-high w (2 * m) (omega arith)) in
+    let f = sum (pos 2 *ℤ t) (pos m) in
+    let above : m * (2 * up q) < m * (2 * b + 2 + 2 * dn q) = omega (arith, times (2 * m) q, times 2 t, pos-up m, pos-dn m, abs t) in
+    let below : m * (2 * dn (q +ℤ pos 1)) < m * (2 * b + 2 * up (q +ℤ pos 1)) = omega (arith, times (2 * m) (q +ℤ pos 1), times 2 t, pos-up m, pos-dn m, abs t) in
+    omega (arith, lt-of-mul-lt-mul-left m above, lt-of-mul-lt-mul-left m below, sum q (pos 1), pos-up 1, pos-dn 1, abs q, one q, one (q +ℤ pos 1))
+
 -- ---- clip
 
 true-false {ℓ} : {X : Type ℓ} {t : Bool} → t ≡ true → t ≡ false → X
@@ -95,17 +108,14 @@ clip-small (negsuc n) top = omega arith
 
 -- ---- row
 
--- the magnitudes of three products of numbers to 2^40 with weights to 2^21, and of their sums
-pub product-small : (k a : ℤ) → natAbs k ≤ 2097152 → natAbs a ≤ 1099511627776 → natAbs (k *ℤ a) ≤ 2305843009213693952
-product-small k a h g = abs-prod-le k a 2097152 1099511627776 h g
+-- the magnitudes of three products, and of their sums, for weights to u and numbers to v
+module _ (u v : ℕ) (k l m a b c : ℤ) (hk : natAbs k ≤ u) (hl : natAbs l ≤ u) (hm : natAbs m ≤ u) (ha : natAbs a ≤ v) (hb : natAbs b ≤ v) (hc : natAbs c ≤ v) where
+  pub pair-small : natAbs (k *ℤ a +ℤ l *ℤ b) ≤ 2 * (u * v)
+  pair-small = omega (arith, abs-sum (k *ℤ a) (l *ℤ b), abs-prod-le k a u v hk ha, abs-prod-le l b u v hl hb)
 
-module _ (k l m a b c : ℤ) (hk : natAbs k ≤ 2097152) (hl : natAbs l ≤ 2097152) (hm : natAbs m ≤ 2097152) (ha : natAbs a ≤ 1099511627776) (hb : natAbs b ≤ 1099511627776) (hc : natAbs c ≤ 1099511627776) where
-  pub pair-small : natAbs (k *ℤ a +ℤ l *ℤ b) ≤ 4611686018427387904
-  pair-small = omega (arith, abs-sum (k *ℤ a) (l *ℤ b), product-small k a hk ha, product-small l b hl hb)
-
-  pub row-small : natAbs (row k l m a b c) ≤ 6917529027641081856
+  pub row-small : natAbs (row k l m a b c) ≤ 3 * (u * v)
   unfolding row
-  row-small = omega (arith, abs-sum (k *ℤ a +ℤ l *ℤ b) (m *ℤ c), pair-small, product-small m c hm hc)
+  row-small = omega (arith, abs-sum (k *ℤ a +ℤ l *ℤ b) (m *ℤ c), pair-small, abs-prod-le m c u v hm hc)
 
 -- ---- powers of two
 
@@ -115,3 +125,17 @@ powers = 1 ∷ 2 ∷ 4 ∷ 8 ∷ 16 ∷ 32 ∷ 64 ∷ 128 ∷ 256 ∷ 512 ∷ 10
 pub power-at : (k : ℕ) → k ≤ 16 → getD powers k 0 ≡ 2 ^ k
 unfolding tab
 power-at k h = getD-tab 17 (λ i. 2 ^ i) 0 k (omega arith)
+
+pub top-above : (r : ℕ) → r ≤ 8 → 256 ≤ 2 ^ (8 + r)
+top-above r h = leb→le 256 (2 ^ (8 + r)) (each 9 (λ k. leb 256 (2 ^ (8 + k))) tt r (omega arith))
+
+pub top-below : (r : ℕ) → r ≤ 8 → 2 ^ (8 + r) ≤ 65536
+top-below r h = leb→le (2 ^ (8 + r)) 65536 (each 9 (λ k. leb (2 ^ (8 + k)) 65536) tt r (omega arith))
+
+pub centre-below : (r : ℕ) → r ≤ 8 → 2 ^ (7 + r) ≤ 32768
+centre-below r h = leb→le (2 ^ (7 + r)) 32768 (each 9 (λ k. leb (2 ^ (7 + k)) 32768) tt r (omega arith))
+
+-- ---- differences
+
+pub less-small : (x centre : ℤ) → natAbs x ≤ 549755813888 → natAbs centre ≤ 32768 → natAbs (x -ℤ centre) ≤ 1099511627776
+less-small x centre h g = omega (arith, abs-sum x (negℤ centre), abs-neg centre)

@@ -1,9 +1,9 @@
 // Numbers as the merge rounds, clips and weighs them: one operator or one cast a function, none of which wraps.
 ghost use mathlib.Core.Path.{_≡_};
 ghost use Prim.Native.Nat.{_+_, _-_, _^_, _<_, _≤_};
-ghost use lib.IntN.{pos, natAbs};
+ghost use lib.IntN.{pos, natAbs, _-ℤ_};
 ghost use lib.Signed.{shrZ};
-ghost use Rattle.rounding.specs.Near.{nearest, clip, row};
+ghost use Rattle.rounding.specs.Near.{nearest, clip, row, top};
 
 // A sample, as a number of 64 bits.
 pub fn wide(x: i32) -> i64
@@ -98,4 +98,28 @@ pub fn power(k: u32) -> u32
 {
     let i = k as usize;
     POWERS[i]
+}
+
+// The largest number of 8 + r bits.
+pub fn top_of(r: u32) -> u32
+    requires { ⌜ r ≤ 8 ⌝ }
+    ensures { λ t. ⌜ (t ≡ top r) × (t ≤ 65535) ⌝ }
+{
+    power(8 + r) - 1
+}
+
+// The middle of the numbers of 8 + r bits.
+pub fn centre_of(r: u32) -> i64
+    requires { ⌜ r ≤ 8 ⌝ }
+    ensures { λ c. ⌜ (c ≡ pos (2 ^ (7 + r))) × (natAbs c ≤ 32768) ⌝ }
+{
+    wide_count(power(7 + r))
+}
+
+// x without its centre: numbers to 2^39.
+pub fn less(x: i64, centre: i64) -> i64
+    requires { ⌜ (natAbs x ≤ 549755813888) × (natAbs centre ≤ 32768) ⌝ }
+    ensures { λ d. ⌜ (d ≡ x -ℤ centre) × (natAbs d ≤ 1099511627776) ⌝ }
+{
+    x - centre
 }

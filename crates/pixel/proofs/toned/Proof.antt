@@ -5,9 +5,9 @@ use native.Mathlib.Omega.{arith}
 use mir.Syntax.{w64}
 use mir.Facts.{toZ-ofZ}
 use Rattle.laws.proofs.Integers.{back}
-use Rattle.rounding.specs.Near.{clip}
+use Rattle.rounding.specs.Near.{clip, top}
 use Rattle.rounding.proofs.Laws.{clip-small}
-use Rattle.pixel.specs.Steps.{curved, top}
+use Rattle.curves.specs.Curves.{curved}
 use Rattle.pixel.proofs.toned.Statement.{statement}
 use Rattle.pixel.proofs.toned.Tie as tie
 
@@ -25,7 +25,7 @@ is-clip c =
 curved-requires : tie.Need-curved-requires
 curved-requires c κs =
     let s = c .before .before .before in
-    (s .pre, omega (arith, is-clip c, clip-small (s .args .v) (top (s .args .s .rh))))
+    ((s .pre .rb-small, (s .pre .rh-small, omega (arith, is-clip c, clip-small (s .args .v) (top (s .args .s .rh))))), s .pre .lent)
 
 returns : tie.Need-returns
 returns c =

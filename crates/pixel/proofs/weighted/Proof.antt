@@ -1,6 +1,6 @@
 -- `pixel::weighted` meets its contract. Assumes nothing.
 use borrow.Author.Needs.{needs}
-use mathlib.Core.Path.{_≡_, _∙_}
+use mathlib.Core.Path.{_≡_, ap, _∙_}
 use Prim.Native.Nat.{_+_, _≤_}
 use native.Mathlib.Omega.{arith}
 use lib.IntN.{ℤ, pos, natAbs}
@@ -8,6 +8,8 @@ use lib.ListN.{getD}
 use mir.Syntax.{w16, w64}
 use mir.Val.{toZ, ofZ}
 use Rattle.laws.proofs.Integers.{back}
+use Rattle.rounding.specs.Near.{row}
+use Rattle.rounding.proofs.Laws.{row-small}
 use Rattle.pixel.specs.Steps.{weighted}
 use Rattle.pixel.proofs.weighted.Statement.{statement}
 use Rattle.pixel.proofs.weighted.Tie as tie
@@ -93,6 +95,25 @@ row-requires c κs =
 nearest-requires : tie.Need-nearest-requires
 nearest-requires c κs = rw (back w64 (c .row .result) (c .row .ok)) (omega (arith, c .row .ensures .1), omega arith)
 
+-- a weight has 16 bits and a number 33, so that their row is small
+row-below : (c : tie.After-row) → natAbs (c .row .result) ≤ 422212465065984
+unfolding start
+row-below c =
+    let s = c .before in
+    let k = s .before .before .before .before .before .before .before .wide-weight in
+    let l = s .before .before .before .before .before .wide-weight2 in
+    let m = s .before .before .before .wide-weight3 in
+    let a = start s .args .t in
+    let p = start s .pre .1 in
+    let e : c .row .result ≡ row (k .result) (l .result) (m .result) (a .first) (a .second) (a .third) =
+        c .row .ensures .0 ∙ rw (back w64 (k .result) (k .ok), back w64 (l .result) (l .ok), back w64 (m .result) (m .ok), a-read s, b-read s, c-read s)
+      in
+    omega (
+      arith,
+      ap natAbs e,
+      row-small 32768 4294967296 (k .result) (l .result) (m .result) (a .first) (a .second) (a .third) (k .ensures .1) (l .ensures .1) (m .ensures .1) (p .first-small) (p .second-small) (p .third-small),
+    )
+
 returns : tie.Need-returns
 unfolding weighted start
 returns c =
@@ -101,7 +122,7 @@ returns c =
     let s = c .before .before in
     rw (back w64 (n .result) (n .ok))
     (n .ensures .0 ∙ rw (back w64 (r .result) (r .ok), r .ensures .0, k-read s, l-read s, m-read s, a-read s, b-read s, c-read s),
-      omega (arith, rw (back w64 (r .result) (r .ok)) at (n .ensures .1), r .ensures .1))
+      omega (arith, rw (back w64 (r .result) (r .ok)) at (n .ensures .1), row-below (c .before)))
 
 pub weighted-spec : {M : Type 1} → statement M
 weighted-spec =

@@ -1,9 +1,9 @@
--- `pixel::srgb` meets its contract: the table of the source is the table of the definition. Assumes nothing.
+-- `curves::srgb` meets its contract: the table of the source is the table of the definition. Assumes nothing.
 use borrow.Author.Needs.{needs}
 use mathlib.Core.Path.{refl}
-use Rattle.pixel.specs.Srgb.{srgb}
-use Rattle.pixel.proofs.srgb.Statement.{statement}
-use Rattle.pixel.proofs.srgb.Tie as tie
+use Rattle.curves.specs.Srgb.{srgb}
+use Rattle.curves.proofs.srgb.Statement.{statement}
+use Rattle.curves.proofs.srgb.Tie as tie
 
 mul-result : tie.Need-mul-result
 mul-result c = search needs

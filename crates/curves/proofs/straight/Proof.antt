@@ -1,4 +1,4 @@
--- `pixel::straight` meets its contract: the product fits 32 bits. Assumes nothing.
+-- `curves::straight` meets its contract: the product fits 32 bits. Assumes nothing.
 use borrow.Author.Needs.{needs}
 use mathlib.Core.Path.{_≡_, ap, _∙_}
 use Prim.Native.Nat.{_*_, _≤_}
@@ -8,10 +8,11 @@ use mir.Syntax.{w64}
 use mir.Val.{toZ, ofZ}
 use Rattle.laws.proofs.Integers.{back}
 use Rattle.rounding.specs.Near.{nearest}
-use Rattle.pixel.specs.Steps.{straight}
-use Rattle.pixel.proofs.Laws.{product-below, top-above}
-use Rattle.pixel.proofs.straight.Statement.{statement}
-use Rattle.pixel.proofs.straight.Tie as tie
+use Rattle.rounding.proofs.Laws.{top-above}
+use Rattle.curves.specs.Curves.{straight}
+use Rattle.curves.proofs.Laws.{product-below}
+use Rattle.curves.proofs.straight.Statement.{statement}
+use Rattle.curves.proofs.straight.Tie as tie
 
 top-of-requires : tie.Need-top-of-requires
 top-of-requires c κs = search needs

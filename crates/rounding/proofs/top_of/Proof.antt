@@ -1,11 +1,11 @@
--- `pixel::top_of` meets its contract. Assumes nothing.
+-- `rounding::top_of` meets its contract. Assumes nothing.
 use borrow.Author.Needs.{needs}
 use mathlib.Core.Path.{ap}
 use Prim.Native.Nat.{_-_}
 use native.Mathlib.Omega.{arith}
-use Rattle.pixel.proofs.Laws.{top-above, top-below}
-use Rattle.pixel.proofs.top_of.Statement.{statement}
-use Rattle.pixel.proofs.top_of.Tie as tie
+use Rattle.rounding.proofs.Laws.{top-above, top-below}
+use Rattle.rounding.proofs.top_of.Statement.{statement}
+use Rattle.rounding.proofs.top_of.Tie as tie
 
 add-power : tie.Need-add-power
 add-power c = search needs

@@ -1,4 +1,4 @@
--- `pixel::centre_of` meets its contract. Assumes nothing.
+-- `rounding::centre_of` meets its contract. Assumes nothing.
 use borrow.Author.Needs.{needs}
 use mathlib.Core.Path.{_≡_, refl, ap, _∙_}
 use Prim.Native.Nat.{_+_, _^_}
@@ -6,9 +6,9 @@ use lib.IntN.{pos}
 use mir.Syntax.{w64}
 use mir.Val.{toZ, ofZ}
 use Rattle.laws.proofs.Integers.{back}
-use Rattle.pixel.proofs.Laws.{centre-below}
-use Rattle.pixel.proofs.centre_of.Statement.{statement}
-use Rattle.pixel.proofs.centre_of.Tie as tie
+use Rattle.rounding.proofs.Laws.{centre-below}
+use Rattle.rounding.proofs.centre_of.Statement.{statement}
+use Rattle.rounding.proofs.centre_of.Tie as tie
 
 add-power : tie.Need-add-power
 add-power c = search needs

@@ -6,7 +6,7 @@ use lib.Dec.{T}
 use lib.ListN.{length, getD}
 use Rattle.laws.proofs.Lists.{each}
 use Rattle.rounding.specs.Near.{nearest}
-use Rattle.pixel.specs.Srgb.{srgb, srgbRight}
+use Rattle.curves.specs.Srgb.{srgb, srgbRight}
 
 pub srgb-long : length srgb ≡ 256
 unfolding srgb

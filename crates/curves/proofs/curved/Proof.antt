@@ -1,14 +1,14 @@
--- `pixel::curved` meets its contract: a curve at a time. Assumes nothing.
+-- `curves::curved` meets its contract: a curve at a time. Assumes nothing.
 use borrow.Author.Needs.{needs}
 use mathlib.Core.Path.{_∙_, ap}
 use native.Mathlib.Omega.{arith}
 use lib.IntN.{pos, natAbs}
 use mir.Syntax.{w64}
 use Rattle.laws.proofs.Integers.{back}
-use Rattle.pixel.specs.Steps.{curved}
-use Rattle.pixel.proofs.Laws.{in-table, in-srgb}
-use Rattle.pixel.proofs.curved.Statement.{statement}
-use Rattle.pixel.proofs.curved.Tie as tie
+use Rattle.curves.specs.Curves.{curved}
+use Rattle.curves.proofs.Laws.{in-table, in-srgb}
+use Rattle.curves.proofs.curved.Statement.{statement}
+use Rattle.curves.proofs.curved.Tie as tie
 
 enum-told : tie.Need-enum-told
 enum-told c = search needs
@@ -22,7 +22,7 @@ enum-told-2 c = search needs
 entry-requires : tie.Need-entry-requires
 entry-requires c κs =
     let s = c .before .before .before in
-    in-table (s .pre .0) (s .args .x) (s .pre .1) (c .enum-told2 .given .1)
+    in-table (s .pre .1) (s .args .x) (s .pre .0 .1 .1) (s .pre .0 .1 .0) (c .enum-told2 .given .1)
 
 cast-wide-count : tie.Need-cast-wide-count
 cast-wide-count c = search needs
@@ -36,7 +36,7 @@ enum-told-3 c = search needs
 srgb-requires : tie.Need-srgb-requires
 srgb-requires c κs =
     let s = c .before .before .before in
-    in-srgb (s .pre .0) (s .args .x) (s .pre .1) (c .enum-told3 .given .1)
+    in-srgb (s .pre .1) (s .args .x) (s .pre .0 .1 .1) (c .enum-told3 .given .1)
 
 cast-wide-count-2 : tie.Need-cast-wide-count-2
 cast-wide-count-2 c = search needs
