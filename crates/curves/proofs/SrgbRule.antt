@@ -6,12 +6,12 @@ use lib.Dec.{T}
 use lib.ListN.{length, getD}
 use Rattle.laws.proofs.Lists.{each}
 use Rattle.rounding.specs.Near.{nearest}
-use Rattle.curves.specs.Srgb.{srgb, srgbRight}
+use Rattle.curves.specs.Srgb.{srgb, srgbRule}
 
 pub srgb-long : length srgb ≡ 256
 unfolding srgb
 srgb-long = refl
 
-pub srgb-rule : (c : ℕ) → c < 256 → T (srgbRight c (getD srgb c 0))
-unfolding srgb srgbRight nearest
-srgb-rule = each 256 (λ c. srgbRight c (getD srgb c 0)) tt
+pub srgb-rule : (c : ℕ) → c < 256 → T (srgbRule c (getD srgb c 0))
+unfolding srgb srgbRule nearest
+srgb-rule = each 256 (λ c. srgbRule c (getD srgb c 0)) tt

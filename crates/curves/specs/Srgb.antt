@@ -8,8 +8,8 @@ use Rattle.rounding.specs.Near.{nearest}
 
 -- "For c up to 10, t is nearest to 25700c/1292. For c from 11, (2t-1)^5 times 53805^12 is at most 131070^5 times (200c+2805)^12,
 -- which is below (2t+1)^5 times 53805^12"
-unfoldable pub srgbRight : ℕ → ℕ → Bool
-srgbRight c t =
+unfoldable pub srgbRule : ℕ → ℕ → Bool
+srgbRule c t =
     cond (leb c 10) (eqb t (natAbs (nearest (pos (25700 * c)) 1292)))
     (leb ((2 * t - 1) ^ 5 * 53805 ^ 12) (131070 ^ 5 * (200 * c + 2805) ^ 12) && ltb (131070 ^ 5 * (200 * c + 2805) ^ 12) ((2 * t + 1) ^ 5 * 53805 ^ 12))
 

@@ -4,3 +4,5 @@ pub mod Sums
 pub mod Fill
 pub mod First
 pub mod Floors
+pub mod Spread
+pub mod Tests

@@ -25,8 +25,8 @@ returns c =
     let r = c .toned in
     let a = s .args in
     let e : r .result ≡ curved (a .s .curve) (a .s .rb) (a .s .rh) (a .table .now) (clip (a .y) (top (a .s .rh))) =
-        r .ensures .0 ∙ ap (λ (z : ℤ). curved (a .s .curve) (a .s .rb) (a .s .rh) (a .table .now) (clip z (top (a .s .rh)))) (back w64 (w .result) (w .ok) ∙ w .ensures .0 ∙ toZ-ofZ (s .fits .y))
-      in
+    r .ensures .0 ∙ ap (λ (z : ℤ). curved (a .s .curve) (a .s .rb) (a .s .rh) (a .table .now) (clip z (top (a .s .rh)))) (back w64 (w .result) (w .ok) ∙ w .ensures .0 ∙ toZ-ofZ (s .fits .y))
+    in
     rw (back w64 (r .result) (r .ok)) (ap single e ∙ sym (basis-single (a .s) (a .table .now) (a .y)), r .ensures .1)
 
 pub basis-one-spec : {M : Type 1} → statement M

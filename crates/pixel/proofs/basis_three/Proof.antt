@@ -74,11 +74,12 @@ returns c =
     let h = c .before .toned3 in
     let r = c .before .before .before .before .before .before .before in
     let t = r .recolour .result in
-    let k = c .before .before .before .before .before .before .struct-told .given in
-    (c .matrixed .ensures .0
-      ∙ rw (back w64 (f .result) (f .ok), back w64 (g .result) (g .ok), back w64 (h .result) (h .ok), f .ensures .0, g .ensures .0, h .ensures .0, back w64 (t .first) (k .0 .1), back w64 (t .second) (k .1 .0 .1), back w64 (t .third) (k .1 .1 .0 .1))
-      (ap (stepThree (a .s)) (two-steps (a .s) (a .table .now) (triple (a .y) (a .cb) (a .cr)) (t .first) (t .second) (t .third) (recoloured r))),
-      c .matrixed .ensures .1)
+    let k = c .before .before .before .before .before .before .struct-told .given in (
+      c .matrixed .ensures .0
+          ∙ rw (back w64 (f .result) (f .ok), back w64 (g .result) (g .ok), back w64 (h .result) (h .ok), f .ensures .0, g .ensures .0, h .ensures .0, back w64 (t .first) (k .0 .1), back w64 (t .second) (k .1 .0 .1), back w64 (t .third) (k .1 .1 .0 .1))
+          (ap (stepThree (a .s)) (two-steps (a .s) (a .table .now) (triple (a .y) (a .cb) (a .cr)) (t .first) (t .second) (t .third) (recoloured r))),
+      c .matrixed .ensures .1,
+    )
 
 pub basis-three-spec : {M : Type 1} → statement M
 basis-three-spec =

@@ -73,9 +73,10 @@ returns c =
     let s = start w in
     let n = c .nearest in
     let e : n .result ≡ nearest (pos (2 ^ (s .args .rb + 4 - s .args .rr)) *ℤ s .args .x) 16 = n .ensures .0 ∙ ap (λ z. nearest z 16) (given w) in
-    rw (back w64 (n .result) (n .ok))
-    (e ∙ scaled-sixteenths (s .args .rb) (s .args .rr) (s .args .x) (s .pre .1),
-      omega (arith, ap natAbs e, scaled-below (s .args .rb) (s .args .rr) (s .args .x) (s .pre .1) (s .pre .0) (x-small w)))
+    rw (back w64 (n .result) (n .ok)) (
+      e ∙ scaled-sixteenths (s .args .rb) (s .args .rr) (s .args .x) (s .pre .1),
+      omega (arith, ap natAbs e, scaled-below (s .args .rb) (s .args .rr) (s .args .x) (s .pre .1) (s .pre .0) (x-small w)),
+    )
 
 pub scaled-spec : {M : Type 1} → statement M
 scaled-spec =

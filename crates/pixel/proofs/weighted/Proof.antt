@@ -106,8 +106,8 @@ row-below c =
     let a = start s .args .t in
     let p = start s .pre .1 in
     let e : c .row .result ≡ row (k .result) (l .result) (m .result) (a .first) (a .second) (a .third) =
-        c .row .ensures .0 ∙ rw (back w64 (k .result) (k .ok), back w64 (l .result) (l .ok), back w64 (m .result) (m .ok), a-read s, b-read s, c-read s)
-      in
+    c .row .ensures .0 ∙ rw (back w64 (k .result) (k .ok), back w64 (l .result) (l .ok), back w64 (m .result) (m .ok), a-read s, b-read s, c-read s)
+    in
     omega (
       arith,
       ap natAbs e,
@@ -120,9 +120,10 @@ returns c =
     let r = c .before .row in
     let n = c .nearest in
     let s = c .before .before in
-    rw (back w64 (n .result) (n .ok))
-    (n .ensures .0 ∙ rw (back w64 (r .result) (r .ok), r .ensures .0, k-read s, l-read s, m-read s, a-read s, b-read s, c-read s),
-      omega (arith, rw (back w64 (r .result) (r .ok)) at (n .ensures .1), row-below (c .before)))
+    rw (back w64 (n .result) (n .ok)) (
+      n .ensures .0 ∙ rw (back w64 (r .result) (r .ok), r .ensures .0, k-read s, l-read s, m-read s, a-read s, b-read s, c-read s),
+      omega (arith, rw (back w64 (r .result) (r .ok)) at (n .ensures .1), row-below (c .before)),
+    )
 
 pub weighted-spec : {M : Type 1} → statement M
 weighted-spec =

@@ -1,0 +1,56 @@
+// The merge to 9 to 16 bits (01, "Merge"): a picture of one or three components, and the public call.
+ghost use mathlib.Core.Path.{_≡_};
+ghost use mathlib.Core.List.{_++_};
+ghost use Prim.Native.Nat.{_*_, _<_, _≤_};
+ghost use lib.ListN.{length, drop};
+ghost use Rattle.answers.specs.Verdict.{Meets, Tried};
+ghost use Rattle.pixel.specs.Pixels.{single, samplesOf};
+ghost use Rattle.settings.specs.Tests.{samples, Lending};
+ghost use Rattle.merge.specs.Picture.{mergedAt, picture, merge};
+
+// Pixel p of the result, for one component.
+fn one_at(
+    s: pixel::Setting,
+    pixels: usize,
+    base: &[i32],
+    residual: &[i32],
+    table: &[u16],
+    p: usize,
+) -> u16
+    requires { ⌜ Lending s pixels (now base) (now residual) (now table) ⌝ }
+    requires { ⌜ (s .components ≡ 1) × (p < pixels) ⌝ }
+    ensures { λ r. ⌜ single r ≡ mergedAt s pixels (now (base .entry)) (now (residual .entry)) (now (table .entry)) p ⌝ }
+{
+    let b = pixel::basis_one(s, table, base[p]);
+    let lent = s.residual;
+    match lent {
+        pixel::Residual::Absent => pixel::alone(s.rb, b),
+        pixel::Residual::Present => pixel::added(s.rb, b, pixel::scaled(s.rb, s.rr, residual[p])),
+    }
+}
+
+// Pixel p of the result, for three components.
+fn three_at(
+    s: pixel::Setting,
+    pixels: usize,
+    base: &[i32],
+    residual: &[i32],
+    table: &[u16],
+    p: usize,
+) -> pixel::Samples
+    requires { ⌜ Lending s pixels (now base) (now residual) (now table) ⌝ }
+    requires { ⌜ (s .components ≡ 3) × (p < pixels) ⌝ }
+    ensures { λ r. ⌜ samplesOf r ≡ mergedAt s pixels (now (base .entry)) (now (residual .entry)) (now (table .entry)) p ⌝ }
+{
+    let q = pixels + p;
+    let w = pixels + pixels + p;
+    let b = pixel::basis_three(s, table, base[p], base[q], base[w]);
+    let lent = s.residual;
+    match lent {
+        pixel::Residual::Absent => pixel::alone_three(s.rb, b),
+        pixel::Residual::Present => {
+            let r = pixel::residual_three(s, residual[p], residual[q], residual[w]);
+            pixel::added_three(s.rb, b, r)
+        }
+    }
+}
