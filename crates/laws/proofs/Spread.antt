@@ -65,6 +65,10 @@ module _ {A : Type 0} (z : A) (c n : ℕ) (F : ℕ → ℕ → A) (d : List A) w
       here k q hk hq (inr (f, l)) =
           ⊎-elim (λ (g : k < m). other k q hk hq (inr (f, g))) (λ (g : m ≤ k). same k q f (omega arith)) (split k m)
 
+  -- the same, with the place and the value as they are computed
+  pub spread-at : {e : List A} {p m : ℕ} → Spread e p m → p < n → m < c → c * n ≤ length d → (i : ℕ) (v : A) → m * n + p ≡ i → F m p ≡ v → Spread (set e i v) p (m + 1)
+  spread-at s hp hm room i v f g = rw (← f, ← g) (spread-put s hp hm room)
+
   -- the turn is over once all parts have their place
   pub spread-turn : {e : List A} {p m : ℕ} → Spread e p m → c ≤ m → Spread e (p + 1) 0
   spread-turn {e} {p} {m} s h = record { long = s .long; put = λ k q hk hq w. s .put k q hk hq (earlier k q hk w); rest = s .rest }

@@ -54,3 +54,49 @@ fn three_at(
         }
     }
 }
+
+// The picture of one component.
+fn fill_one(
+    s: pixel::Setting,
+    pixels: usize,
+    base: &[i32],
+    residual: &[i32],
+    table: &[u16],
+    destination: &mut [u16],
+)
+    requires { ⌜ Lending s pixels (now base) (now residual) (now table) ⌝ }
+    requires { ⌜ (s .components ≡ 1) × (samples s pixels ≤ length (now destination)) ⌝ }
+    ensures { λ r. ⌜ now (destination .exit) ≡ picture s pixels (now (base .entry)) (now (residual .entry)) (now (table .entry)) ++ drop (samples s pixels) (now (destination .entry)) ⌝ }
+{
+    let mut p = 0;
+    while p < pixels {
+        let v = one_at(s, pixels, base, residual, table, p);
+        destination[p] = v;
+        p += 1;
+    }
+}
+
+// The picture of three components, pixel by pixel.
+fn fill_three(
+    s: pixel::Setting,
+    pixels: usize,
+    base: &[i32],
+    residual: &[i32],
+    table: &[u16],
+    destination: &mut [u16],
+)
+    requires { ⌜ Lending s pixels (now base) (now residual) (now table) ⌝ }
+    requires { ⌜ (s .components ≡ 3) × (samples s pixels ≤ length (now destination)) ⌝ }
+    ensures { λ r. ⌜ now (destination .exit) ≡ picture s pixels (now (base .entry)) (now (residual .entry)) (now (table .entry)) ++ drop (samples s pixels) (now (destination .entry)) ⌝ }
+{
+    let mut p = 0;
+    while p < pixels {
+        let v = three_at(s, pixels, base, residual, table, p);
+        let q = pixels + p;
+        let w = pixels + pixels + p;
+        destination[p] = v.first;
+        destination[q] = v.second;
+        destination[w] = v.third;
+        p += 1;
+    }
+}
