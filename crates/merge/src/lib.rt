@@ -100,3 +100,63 @@ fn fill_three(
         p += 1;
     }
 }
+
+// The refusals in their order, then the picture. A refusal may leave anything in the destination.
+fn try_merge(
+    s: pixel::Setting,
+    pixels: usize,
+    base: &[i32],
+    residual: &[i32],
+    table: &[u16],
+    destination: &mut [u16],
+) -> answers::Outcome
+    ensures { λ r. ⌜ Tried 0 (merge s pixels (now (base .entry)) (now (residual .entry)) (now (table .entry)) (length (now (destination .entry)))) (now (destination .entry)) (now (destination .exit)) r ⌝ }
+{
+    if !settings::in_ranges(s, pixels) {
+        return answers::refuse(20, 0);
+    }
+    if !settings::plain(s) {
+        return answers::refuse(20, 0);
+    }
+    if !settings::srgb_allowed(s) {
+        return answers::refuse(20, 0);
+    }
+    if !settings::lengths_right(s, pixels, base, residual, table) {
+        return answers::refuse(21, 0);
+    }
+    let large = settings::first_large(table, rounding::top_of(s.rb));
+    if let laws::Found::At(i) = large {
+        return answers::refuse(11, i);
+    }
+    let count = (s.components as usize) * pixels;
+    if destination.len() < count {
+        return answers::refuse(9, count);
+    }
+    if s.components == 1 {
+        fill_one(s, pixels, base, residual, table, destination);
+        return answers::Outcome::Given(count);
+    }
+    fill_three(s, pixels, base, residual, table, destination);
+    answers::Outcome::Given(count)
+}
+
+// The merge: a number and a place, and the picture or zeros in the destination.
+pub fn merge(
+    s: pixel::Setting,
+    pixels: usize,
+    base: &[i32],
+    residual: &[i32],
+    table: &[u16],
+    destination: &mut [u16],
+) -> answers::Answer
+    ensures { λ r. ⌜ Meets 0 (merge s pixels (now (base .entry)) (now (residual .entry)) (now (table .entry)) (length (now (destination .entry)))) (now (destination .entry)) (now (destination .exit)) r ⌝ }
+{
+    let tried = try_merge(s, pixels, base, residual, table, destination);
+    match tried {
+        answers::Outcome::Given(_) => answers::answer_of(tried),
+        answers::Outcome::Refused(_) => {
+            answers::clear_u16(destination);
+            answers::answer_of(tried)
+        }
+    }
+}
