@@ -1,13 +1,13 @@
 -- The loops over pixels: behind p pixels, p places of each plane are the result's. Assumes nothing.
-use mathlib.Core.Path.{_≡_, refl, sym, ap, _∙_}
+use mathlib.Core.Path.{_≡_, sym, ap}
 use mathlib.Core.List.{List, _++_}
-use Prim.Native.Nat.{ℕ, _+_, _*_, _<_, _≤_}
+use Prim.Native.Nat.{ℕ, _+_, _<_, _≤_}
 use native.Mathlib.Omega.{arith}
 use lib.IntN.{ℤ}
 use lib.ListN.{length, set, drop}
 use Rattle.laws.proofs.Spread.{Spread, spread-start, spread-at, spread-turn, spread-end}
 use Rattle.pixel.specs.declared.Setting.{Setting}
-use Rattle.pixel.specs.Pixels.{Pixel, single, triple, component}
+use Rattle.pixel.specs.Pixels.{single, triple, component}
 use Rattle.settings.specs.Tests.{samples}
 use Rattle.merge.specs.Picture.{mergedAt, planes, picture}
 

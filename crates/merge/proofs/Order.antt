@@ -1,16 +1,15 @@
 -- The order of refusals: what the definition comes to at each return of the code. Assumes nothing.
 use borrow.Author.Tests.{le-leb, lt-leb}
-use mathlib.Core.Path.{_≡_, refl, sym, ap, _∙_}
-use mathlib.Core.Bool.{Bool, true, false}
+use mathlib.Core.Path.{_≡_}
+use mathlib.Core.Bool.{true, false}
 use mathlib.Core.List.{List}
-use Prim.Native.Nat.{ℕ, _*_, _<_, _≤_}
+use Prim.Native.Nat.{ℕ, _<_, _≤_}
 use lib.IntN.{ℤ}
 use lib.ListN.{length}
-use Rattle.laws.specs.Index.{tab}
 use Rattle.laws.specs.First.{firstFail}
 use Rattle.laws.specs.declared.Found.the-variants.{At, Nothing}
 use Rattle.laws.proofs.Lists.{length-tab, join-length}
-use Rattle.answers.specs.Verdict.{Verdict, given, refused, refusal}
+use Rattle.answers.specs.Verdict.{given, refused, refusal}
 use Rattle.rounding.specs.Near.{top}
 use Rattle.pixel.specs.declared.Setting.{Setting}
 use Rattle.settings.specs.Tests.{inRanges, plain, srgbAllowed, lengthsRight, entryRight, samples}

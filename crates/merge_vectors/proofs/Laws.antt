@@ -1,9 +1,9 @@
 -- A number below 2h, less h, has the magnitude of a signed number. Assumes nothing.
-use Prim.Native.Nat.{ℕ, _+_, _^_, _<_, _≤_}
+use Prim.Native.Nat.{ℕ, _+_, _<_, _≤_}
 use native.Mathlib.Omega.{arith}
 use lib.IntN.{ℤ, pos, negsuc, negℤ, _-ℤ_}
 use lib.Signed.{mag}
-use Rattle.laws.proofs.Integers.{up, dn, sum, one, pos-up, pos-dn, negsuc-up, negsuc-dn, neg-up, neg-dn}
+use Rattle.laws.proofs.Integers.{up, dn, sum, one, pos-up, pos-dn, negsuc-dn, neg-up, neg-dn}
 
 mag-below : (h : ℕ) (z : ℤ) → up z < h → dn z ≤ h → mag z < h
 mag-below h (pos n) a b = omega (arith, pos-up n)

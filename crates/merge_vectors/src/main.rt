@@ -92,14 +92,16 @@ fn residual(n: u32) -> pixel::Residual {
 fn weights(file: &[u8], i: usize) -> [i16; 9]
     requires { ⌜ i ≤ 100000 ⌝ }
 {
-    let mut w = [0i16; 9];
-    let mut k = 0;
-    while k < 9 {
-        let x = weight(word(file, i + k));
-        w[k] = x;
-        k += 1;
-    }
-    w
+    let a = weight(word(file, i));
+    let b = weight(word(file, i + 1));
+    let c = weight(word(file, i + 2));
+    let d = weight(word(file, i + 3));
+    let e = weight(word(file, i + 4));
+    let f = weight(word(file, i + 5));
+    let g = weight(word(file, i + 6));
+    let h = weight(word(file, i + 7));
+    let j = weight(word(file, i + 8));
+    [a, b, c, d, e, f, g, h, j]
 }
 
 fn setting(file: &[u8], at: usize) -> pixel::Setting

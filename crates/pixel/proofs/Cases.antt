@@ -1,6 +1,6 @@
 -- Cases f, g and h of the whiteboard and readings that are easily got wrong, computed on the definitions. Assumes nothing.
 use mathlib.Core.Path.{_≡_, refl}
-use mathlib.Core.List.{List, [], _∷_, map}
+use mathlib.Core.List.{[], _∷_, map}
 use Prim.Native.Nat.{ℕ}
 use lib.IntN.{ℤ, pos, negsuc}
 use lib.ListN.{getD}
@@ -54,11 +54,6 @@ case-g-added = refl
 pub case-h : map (λ c. getD srgb c 0) (0 ∷ 1 ∷ 10 ∷ 255 ∷ []) ≡ 0 ∷ 20 ∷ 199 ∷ 65535 ∷ []
 unfolding srgb
 case-h = refl
-
--- halves go up for negative numbers too: -3/2, -1/2, 1/2, 3/2 to -1, 0, 1, 2
-pub halves-up : map (λ t. nearest t 2) (negsuc 2 ∷ negsuc 0 ∷ pos 1 ∷ pos 3 ∷ []) ≡ negsuc 0 ∷ pos 0 ∷ pos 1 ∷ pos 2 ∷ []
-unfolding nearest
-halves-up = refl
 
 -- nothing is clipped before step 1: Y 300 with Cr 28 is 300 - 140.2 in red
 pub not-clipped-before : stepOne (straightWith 4 0 0 Transform None Absent Identity) (triple (pos 300) (pos 128) (pos 28)) ≡ triple 160 255 255

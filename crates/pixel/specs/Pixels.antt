@@ -1,5 +1,4 @@
 -- One pixel: a number, or one for each of three components.
-use mathlib.Core.Path.{_≡_}
 use Prim.Native.Nat.{ℕ, zero, suc, _≤_}
 use lib.IntN.{ℤ, natAbs}
 use Rattle.pixel.specs.declared.Three.{Three}

@@ -1,12 +1,11 @@
 // The merge of one pixel (01, "Merge"): five steps, each a function or some, and the settings that they go by.
 ghost use mathlib.Core.Path.{_≡_};
-ghost use Prim.Native.Nat.{_+_, _*_, _^_, _<_, _≤_};
-ghost use lib.IntN.{pos, natAbs, _-ℤ_};
-ghost use lib.ListN.{length, getD};
+ghost use Prim.Native.Nat.{_+_, _*_, _≤_};
+ghost use lib.IntN.{natAbs};
 ghost use Rattle.rounding.specs.Near.{clip, top};
 ghost use Rattle.curves.specs.Curves.{curved};
 ghost use Rattle.pixel.specs.Pixels.{single, triple, each, both, threeOf, samplesOf, Bounded};
-ghost use Rattle.pixel.specs.Steps.{tinted, transform, recolour, firstCentre, stepOne, stepTwo, weighted, matrixed, stepThree, scaled, stepFour, added, alone, joined, stepFive, basis, merged, Ready};
+ghost use Rattle.pixel.specs.Steps.{tinted, transform, recolour, firstCentre, weighted, matrixed, stepThree, scaled, stepFour, added, alone, basis, Ready};
 
 // Identity, or the YCbCr transform of step 1.
 pub enum Colour {

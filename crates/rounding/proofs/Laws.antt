@@ -3,14 +3,14 @@ use borrow.Author.Tests.{ltb-true, ltb-false, le-ltb}
 use mathlib.Core.Path.{_≡_, refl, sym, ap, subst, _∙_}
 use mathlib.Core.Bool.{Bool, true, false}
 use mathlib.Core.List.{List, [], _∷_}
-use Prim.Native.Nat.{ℕ, zero, suc, _+_, _*_, _/_, _%_, _^_, _≤_, _<_, min, zero-le}
-use native.Mathlib.Nat.{div-add-mod, mod-lt, mul-le-mul-left, lt-of-mul-lt-mul-left}
+use Prim.Native.Nat.{ℕ, _+_, _*_, _/_, _^_, _≤_, _<_, zero-le}
+use native.Mathlib.Nat.{mul-le-mul-left, lt-of-mul-lt-mul-left}
 use native.Mathlib.Omega.{arith}
 use lib.Dec.{T, leb, leb→le}
 use lib.ListN.{getD}
 use lib.IntN.{ℤ, pos, negsuc, negℤ, natAbs, _+ℤ_, _-ℤ_, _*ℤ_}
 use lib.Signed.{ltZ, nonNeg, shrZ}
-use Rattle.laws.proofs.Integers.{up, dn, sum, prod, eqZ, pos-up, pos-dn, abs, one, abs-sum, abs-neg, abs-prod-le, ≤-to, <-to, ≤-of, <-of, floor-low, floor-high, floor-abs, *ℤ-dist}
+use Rattle.laws.proofs.Integers.{up, dn, sum, eqZ, pos-up, pos-dn, abs, one, abs-sum, abs-neg, abs-prod-le, ≤-to, <-to, ≤-of, <-of, floor-low, floor-high, floor-abs}
 use Rattle.laws.proofs.Floors.{times, floor-is, floor-scale}
 use Rattle.laws.specs.Index.{tab}
 use Rattle.laws.proofs.Lists.{getD-tab, each}

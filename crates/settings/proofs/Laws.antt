@@ -1,5 +1,5 @@
 -- What the tests behind 20 and 21 say when they are passed. Assumes nothing.
-use borrow.Author.Tests.{leb-true, eqb-true, eqb-false, ne-eqb}
+use borrow.Author.Tests.{leb-true, eqb-true}
 use mathlib.Core.Path.{_≡_, refl, sym, ap, _∙_}
 use mathlib.Core.Logic.{_⊎_, inl, inr}
 use mathlib.Core.Bool.{Bool, true, false, cond}
@@ -12,14 +12,10 @@ use lib.IntN.{ℤ}
 use lib.ListN.{length}
 use Rattle.laws.specs.Index.{every}
 use Rattle.laws.proofs.Lists.{every-first, every-rest}
-use Rattle.laws.proofs.Tests.{every-last}
 use Rattle.curves.specs.declared.Curve.{Curve}
-use Rattle.curves.specs.declared.Curve.the-variants.{Straight, Table, Srgb}
+use Rattle.curves.specs.declared.Curve.the-variants.{Srgb}
 use Rattle.curves.specs.Curves.{entries, Lent}
 use Rattle.pixel.specs.declared.Setting.{Setting}
-use Rattle.pixel.specs.declared.Residual.{Residual}
-use Rattle.pixel.specs.declared.Residual.the-variants.{Absent, Present}
-use Rattle.pixel.specs.Steps.{Ready}
 use Rattle.settings.specs.Tests.{oneOrThree, inRanges, srgbAllowed, isSrgb, samples, residualCount, lengthsRight, Ranged, Lending}
 
 -- one component or three

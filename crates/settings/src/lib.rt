@@ -144,7 +144,8 @@ pub fn lengths_right(
         return false;
     }
     let curve = s.curve;
-    table.len() == table_count(curve, s.rh)
+    let entries = table_count(curve, s.rh);
+    table.len() == entries
 }
 
 // 11: the first entry of a table above the most that it may be.

@@ -1,9 +1,8 @@
 -- `merge::fill_three` meets its contract. Assumes nothing.
-use borrow.Author.Needs.{needs}
 use mathlib.Core.Path.{ap}
-use Prim.Native.Nat.{_-_, _*_}
+use Prim.Native.Nat.{_-_, _*_, _≤_}
 use native.Mathlib.Omega.{arith}
-use lib.ListN.{length-set}
+use lib.ListN.{length, length-set}
 use Rattle.merge.proofs.Filling.{Filling, filling-start, filling-long, filling-three, filling-end}
 use Rattle.merge.proofs.fill_three.Statement.{statement}
 use Rattle.merge.proofs.fill_three.Tie as tie
@@ -13,6 +12,12 @@ Inv-loop s pixels base residual table destination₀ p₀ destination p = Fillin
 
 abbrev μ-loop : tie.MeasureT-loop
 μ-loop s pixels base residual table destination₀ p₀ destination p = pixels - p
+
+-- the destination has room for three planes
+roomy : (c : tie.After-three-at Inv-loop μ-loop) → c .before .before .before .before .before .args .pixels * 3 ≤ length (c .before .before .loop .destination)
+roomy c =
+    let s = c .before .before .before .before .before in
+    omega (arith, c .before .before .loop .inv .spread .long, s .pre .1 .1, ap (λ k. k * s .args .pixels) (s .pre .1 .0))
 
 loop-holds : tie.Need-loop-holds Inv-loop μ-loop
 loop-holds c = filling-start _ _ _ _ _ _
@@ -33,19 +38,19 @@ mul-destination : tie.Need-mul-destination Inv-loop μ-loop
 mul-destination c = omega (arith, c .before .before .before .before .before .pre .0 .ranged .pixels-few)
 
 slice-write-destination : tie.Need-slice-write-destination Inv-loop μ-loop
-slice-write-destination c = omega (arith, c .before .before .loop .inv .spread .long, c .before .before .before .before .before .pre .1 .1, ap (λ k. k * c .before .before .before .before .before .args .pixels) (c .before .before .before .before .before .pre .1 .0))
+slice-write-destination c = let h = roomy c in omega arith
 
 mul-destination-2 : tie.Need-mul-destination-2 Inv-loop μ-loop
 mul-destination-2 c = omega (arith, c .before .before .before .before .before .pre .0 .ranged .pixels-few)
 
 slice-write-destination-2 : tie.Need-slice-write-destination-2 Inv-loop μ-loop
-slice-write-destination-2 c = simp length-set (omega (arith, c .before .before .loop .inv .spread .long, c .before .before .before .before .before .pre .1 .1, ap (λ k. k * c .before .before .before .before .before .args .pixels) (c .before .before .before .before .before .pre .1 .0)))
+slice-write-destination-2 c = let h = roomy c in simp length-set (omega arith)
 
 mul-destination-3 : tie.Need-mul-destination-3 Inv-loop μ-loop
 mul-destination-3 c = omega (arith, c .before .before .before .before .before .pre .0 .ranged .pixels-few)
 
 slice-write-destination-3 : tie.Need-slice-write-destination-3 Inv-loop μ-loop
-slice-write-destination-3 c = simp length-set (omega (arith, c .before .before .loop .inv .spread .long, c .before .before .before .before .before .pre .1 .1, ap (λ k. k * c .before .before .before .before .before .args .pixels) (c .before .before .before .before .before .pre .1 .0)))
+slice-write-destination-3 c = let h = roomy c in simp length-set (omega arith)
 
 add-p : tie.Need-add-p Inv-loop μ-loop
 add-p c = omega arith

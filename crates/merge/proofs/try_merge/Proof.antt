@@ -1,20 +1,18 @@
 -- `merge::try_merge` meets its contract: one law of the definition's order at each return. Assumes nothing.
 use borrow.Author.Needs.{needs}
-use borrow.Author.Tests.{not-true, not-false, eqb-true, eqb-false}
-use mathlib.Core.Path.{_≡_, refl, sym, ap, _∙_}
+use borrow.Author.Tests.{not-true, not-false}
+use mathlib.Core.Path.{_≡_, sym, ap, _∙_}
 use mathlib.Core.Bool.{true}
 use mathlib.Core.Logic.{⊎-elim}
 use native.Mathlib.Omega.{arith}
 use mathlib.Core.List.{_++_}
 use lib.ListN.{length, drop}
 use Rattle.laws.specs.First.{firstFail}
-use Rattle.laws.specs.declared.Found.{Found}
-use Rattle.laws.specs.declared.Found.the-variants.{Nothing}
 use Rattle.answers.proofs.Laws.{tried-refused, tried-given}
 use Rattle.answers.specs.declared.Outcome.the-variants.{Given}
 use Rattle.rounding.specs.Near.{top}
 use Rattle.merge.specs.Picture.{picture}
-use Rattle.settings.specs.Tests.{inRanges, plain, srgbAllowed, lengthsRight, entryRight, samples, Ranged, Lending}
+use Rattle.settings.specs.Tests.{inRanges, plain, srgbAllowed, lengthsRight, entryRight, Ranged, Lending}
 use Rattle.settings.proofs.Laws.{ranged, lending, one-or-three, count-small}
 use Rattle.merge.proofs.Order.{no-range, not-plain, no-srgb, no-lengths, too-large, no-room, all-right, picture-long}
 use Rattle.merge.proofs.try_merge.Statement.{statement}

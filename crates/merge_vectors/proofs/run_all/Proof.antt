@@ -1,7 +1,6 @@
 -- `merge_vectors::run_all` is safe and ends: each case has words. Assumes nothing.
 use borrow.Author.Needs.{needs}
 use Prim.Native.Nat.{_-_, _≤_}
-use native.Mathlib.Omega.{arith}
 use Rattle.merge_vectors.proofs.run_all.Statement.{statement}
 use Rattle.merge_vectors.proofs.run_all.Tie as tie
 

@@ -1,9 +1,8 @@
 -- `merge_vectors::write_line` is safe and ends. Assumes nothing.
 use borrow.Author.Needs.{needs}
-use mathlib.Core.Path.{_≡_, refl, _∙_}
 use Prim.Native.Nat.{_-_, _≤_}
 use native.Mathlib.Omega.{arith}
-use lib.ListN.{length, length-set}
+use lib.ListN.{length}
 use Rattle.merge_vectors.proofs.write_line.Statement.{statement}
 use Rattle.merge_vectors.proofs.write_line.Tie as tie
 

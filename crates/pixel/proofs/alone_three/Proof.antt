@@ -1,9 +1,6 @@
 -- `pixel::alone_three` meets its contract. Assumes nothing.
 use borrow.Author.Needs.{needs}
-use mathlib.Core.Path.{_≡_, refl, ap, _∙_}
-use native.Mathlib.Omega.{arith}
 use mir.Syntax.{w64}
-use mir.Facts.{toZ-ofZ}
 use Rattle.laws.proofs.Integers.{back}
 use Rattle.pixel.specs.Pixels.{each}
 use Rattle.pixel.proofs.alone_three.Statement.{statement}

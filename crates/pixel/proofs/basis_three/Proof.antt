@@ -1,15 +1,10 @@
 -- `pixel::basis_three` meets its contract. Assumes nothing.
 use borrow.Author.Needs.{needs}
-use mathlib.Core.Path.{_≡_, sym, ap, _∙_}
+use mathlib.Core.Path.{_≡_, ap, _∙_}
 use mir.Syntax.{w64}
 use mir.Facts.{toZ-ofZ}
 use Rattle.laws.proofs.Integers.{back}
-use Prim.Native.Nat.{_≤_}
 use native.Mathlib.Omega.{arith}
-use lib.IntN.{ℤ, natAbs}
-use mir.Val.{toZ, ofZ}
-use Rattle.rounding.specs.Near.{clip, top}
-use Rattle.curves.specs.Curves.{curved}
 use Rattle.pixel.specs.Pixels.{triple, threeOf}
 use Rattle.pixel.specs.Steps.{recolour, firstCentre, stepThree, basis}
 use Rattle.pixel.proofs.Laws.{two-steps}

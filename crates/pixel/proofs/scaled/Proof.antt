@@ -1,6 +1,6 @@
 -- `pixel::scaled` meets its contract: sixteenths, rounded. Assumes nothing.
 use borrow.Author.Needs.{needs}
-use mathlib.Core.Path.{_≡_, refl, ap, _∙_}
+use mathlib.Core.Path.{_≡_, ap, _∙_}
 use native.Mathlib.Omega.{arith}
 use mir.Syntax.{w64}
 use mir.Facts.{toZ-ofZ}
@@ -11,7 +11,6 @@ use lib.IntN.{pos, natAbs, _*ℤ_}
 use lib.Signed.{natAbs-le}
 use Rattle.laws.proofs.Integers.{fit-in}
 use Rattle.rounding.specs.Near.{nearest}
-use Rattle.pixel.specs.Steps.{scaled}
 use Rattle.pixel.proofs.Laws.{scaled-sixteenths, sixteenths-below, scaled-below}
 use Rattle.pixel.proofs.scaled.Statement.{statement}
 use Rattle.pixel.proofs.scaled.Tie as tie

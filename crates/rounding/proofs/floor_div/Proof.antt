@@ -1,5 +1,5 @@
 -- `rounding::floor_div` meets its contract: by the sign, the quotient toward zero is the floor. Assumes nothing.
-use mathlib.Core.Path.{_≡_, sym, ap, _∙_}
+use mathlib.Core.Path.{_≡_, sym, ap, subst, _∙_}
 use mathlib.Core.Bool.{true, false}
 use Prim.Native.Nat.{ℕ, _/_}
 use native.Mathlib.Nat.{div-le-self}
@@ -52,7 +52,7 @@ module _ (c : tie.Then1) where
 
 sub-result : tie.Need-sub-result
 unfolding z
-sub-result c = rw (flipped c) (flip-fits c)
+sub-result c = subst (SFits w64) (sym (flipped c)) (flip-fits c)
 
 div-result : tie.Need-div-result
 unfolding z m

@@ -1,6 +1,5 @@
 -- `rounding::row` meets its contract: each product and each sum fits. Assumes nothing.
 use borrow.Author.Needs.{needs}
-use native.Mathlib.Omega.{arith}
 use mathlib.Core.Path.{refl}
 use lib.IntN.{_+ℤ_, _*ℤ_}
 use mir.Syntax.{w64}
