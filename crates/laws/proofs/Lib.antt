@@ -3,3 +3,6 @@ pub mod Lists
 pub mod Sums
 pub mod Fill
 pub mod First
+pub mod Floors
+pub mod Spread
+pub mod Tests
