@@ -75,9 +75,33 @@ pub fn bytes_read<'a>(r: BitReader<'a>) -> usize
     r.at
 }
 
-// A reader is made, moved to a cursor and asked for a bit: for callers with a plain slice, who need no walk.
+// A reader is made and moved to a cursor.
+fn reader_at<'a>(data: &'a [u8], c: Cursor) -> BitReader<'a>
+    ensures { λ r. ⌜ r ≡ readerAt («data» .entry) c ⌝ }
+{
+    moved_to(new(data), c)
+}
+
+// The next bit, for callers with a plain slice and a cursor: their proofs need no walk.
 pub fn bit_at(data: &[u8], c: Cursor) -> Taken
     ensures { λ t. ⌜ takenOf (now («data» .entry)) t ≡ takeBit (sourceOf (now («data» .entry)) c) ⌝ }
 {
-    next_bit(moved_to(new(data), c))
+    next_bit(reader_at(data, c))
+}
+
+// What is asked at the end of a plane: refusal 18's test, and its place, the bytes read.
+pub struct End {
+    pub padding: bool,
+    pub seen: usize,
+}
+
+// What is left, for the same callers.
+pub fn end_at(data: &[u8], c: Cursor) -> End
+    ensures { λ e. ⌜ (e .padding ≡ onlyPadding (sourceOf (now («data» .entry)) c)) × (e .seen ≡ sourceOf (now («data» .entry)) c .seen) ⌝ }
+{
+    let r = reader_at(data, c);
+    End {
+        padding: only_padding_left(r),
+        seen: bytes_read(r),
+    }
 }
