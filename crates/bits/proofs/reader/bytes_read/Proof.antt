@@ -1,4 +1,4 @@
--- `reader::at` meets its contract: a walk of its MIR, by hand. A number is read from a field of the struct, and the struct is seen at exit as it was passed.
+-- `bits::reader::bytes_read` meets its contract: a walk of its MIR, by hand. A number is read from a field of the struct, and the struct is seen at exit as it was passed.
 -- That the number fits its type is in the struct's relation, at the field's place.
 -- Assumes nothing.
 use mathlib.Core.Path.{refl}
@@ -13,14 +13,13 @@ use prog.Memory.{Memory}
 use prog.Routine.{Routine}
 use prog.Wp.{Heap, Calls, Loops, WpFn, Tables}
 use ghost.Atoms.{Atoms}
-use contract.Lifetimes.{Lfts}
 use contract.Monad.{Fun}
 use contract.Running.{givenOf, tables, tablesOf}
 use types.Kit.{Given, ‵, _⊛_, _$_, _∵_, !, qed, by, move, suffices, frame, done}
 use types.Part.{whole, sub, look-in}
 use types.Run.{look, init, forget, stop, fld, from, load, of-opd, assigns, returns, enter, alloc1, alloc0, params1, pass1, pass0, free1, free0}
 use sound.WpLaws.{WpFn-mono}
-use denote.RattleType.{RattleType, owns}
+use denote.RattleType.{owns}
 use denote.Laws.{Is}
 use denote.Plain.{uint-makes}
 use denote.Builtin.{usize}
@@ -36,14 +35,11 @@ use Rattle.bits.specs.Code.{sourceOf}
 use Rattle.bits.specs.declared.reader.BitReader.{BitReader}
 use Rattle.bits.proofs.reader.BitReader as T
 use Rattle.bits.proofs.reader.BitReader.Laws as T′
+use Rattle.bits.proofs.Held.{B}
 use Rattle.bits.proofs.reader.bytes_read.Key.{name as #reader·bytes-read}
 use Rattle.bits.proofs.reader.bytes_read as reads
 use Rattle.bits.proofs.reader.bytes_read.Statement as stated
 use Rattle.bits.proofs.reader.bytes_read.Code as code
-
--- the struct's type, over the signature's lifetimes
-abbrev B : Lfts 1 → RattleType
-B κs = T.the-row (namedLft 1 0 tt κs)
 
 abbrev stayed : Stays (reads.ended .signature .params) (reads.ended .kept)
 stayed = (stay-none B yes, tt)
