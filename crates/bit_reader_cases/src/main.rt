@@ -65,17 +65,22 @@ fn show(data: &[u8], count: usize) {
 }
 
 fn main() {
+    // Readings d and c: the bits that each plane takes, and its padding.
     show(b"\xBF", 3);
     show(b"\x67", 5);
     show(b"\x3F", 3);
     show(b"\x43", 5);
+    // No data: nothing asked, a bit asked.
     show(b"", 0);
     show(b"", 1);
+    // "FF as last byte is 12"; another byte after FF; "the 00 is tested and counted with its FF".
     show(b"\xFF", 1);
     show(b"\xFF\x01", 1);
     show(b"\xFF\x00", 1);
+    // "A byte is read only when a bit of it is needed": 18 before 12, and 13 once it is needed.
     show(b"\xBF\xFF", 1);
     show(b"\xBF\xFF\x01", 9);
+    // Bytes left, though they are ones; zeros for padding.
     show(b"\xFF\x00\xFF\x00", 8);
     show(b"\x7F\xFF\x00\x80", 17);
 }

@@ -1,4 +1,4 @@
--- What the walks over a reader share: its type, and what of it a function over a slice and a cursor is passed. Assumes nothing.
+-- What the walks over a reader share: what it owns, what its data and its cursor own, what callees are passed of them; and two laws of the contracts. Assumes nothing.
 use mathlib.Core.Path.{_≡_, refl, sym}
 use mathlib.Core.Bool.{Bool}
 use mathlib.Core.List.{List, [], _∷_}
@@ -76,7 +76,7 @@ module _ {M : Type 1} (𝓤 : URA M) (H : Heap 𝓤) (A : Atoms 𝓤) (W : Given
   vd = (d .«data», (d .at, (d .left, (d .byte, tt))))
 
   -- a reader is Copy: it gives its data and its cursor, and is kept
-  pub apart : ent 𝓤 (sem 𝓤 H A (Own κ d)) (sep 𝓤 (sem 𝓤 H A (Both κ (d .«data») (cursorOf d))) (sem 𝓤 H A (Own κ d)))
+  apart : ent 𝓤 (sem 𝓤 H A (Own κ d)) (sep 𝓤 (sem 𝓤 H A (Both κ (d .«data») (cursorOf d))) (sem 𝓤 H A (Own κ d)))
   apart =
       qed W (‵ (Own κ d) ∷ []) ∵ use1 W (‵ (Own κ d) ⊛ ‵ (Own κ d)) (LL.copy D (T′.the-copy (namedLft 1 0 tt (κ, tt))) 𝓤 H A W .twice d (T′.lowered d ∷ [])) $ split ! $
       use1 W (given (T′.lowered d ∷ [] ≡ T′.lowered d ∷ []) (‵ (all-own (D .parts) L vd))) (own-open 𝓤 H A W D L vd (T′.lowered d)) $ learn ! (λ _.

@@ -9,6 +9,7 @@ ghost use Rattle.bits.specs.Source.{takeBit, onlyPadding};
 ghost use Rattle.bits.specs.Code.{sourceOf, takenOf};
 ghost use Rattle.bits.specs.Held.{unread, readerAt, cursorOf};
 
+// The data, and the numbers of a cursor in them.
 pub struct BitReader<'a> {
     pub data: &'a [u8],
     pub at: usize,
@@ -16,7 +17,7 @@ pub struct BitReader<'a> {
     pub byte: u8,
 }
 
-// A reader of which nothing was read.
+// A reader at the start of the data.
 pub fn new<'a>(data: &'a [u8]) -> BitReader<'a>
     ensures { λ r. ⌜ r ≡ readerAt («data» .entry) unread ⌝ }
 {
