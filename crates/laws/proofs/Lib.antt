@@ -6,3 +6,4 @@ pub mod First
 pub mod Floors
 pub mod Spread
 pub mod Tests
+pub mod Parts
