@@ -3,3 +3,4 @@ pub mod Lists
 pub mod Sums
 pub mod Fill
 pub mod First
+pub mod Choices

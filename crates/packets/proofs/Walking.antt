@@ -7,6 +7,7 @@ use native.Mathlib.Omega.{arith}
 use lib.ListN.{length, getD, take, drop}
 use lib.Dec.{eqb, ltb, leb}
 use borrow.Author.Tests.{le-leb, ltb-false, leb-false}
+use Rattle.laws.proofs.Choices.{by-test}
 use Rattle.answers.specs.Verdict.{refusal}
 use Rattle.answers.specs.declared.Refusal.{Refusal}
 use Rattle.answers.specs.declared.Outcome.{Outcome}
@@ -19,11 +20,6 @@ use Rattle.packets.specs.declared.Next.the-variants.{Gone, Mine}
 use Rattle.packets.specs.Walk.{be16, headAt, ones, barred, tagged, packetAt, wholeAt, sizedAt, markedAt, stepAt, onward, stepsIn, stepsFrom, begins, walk, ending}
 use Rattle.packets.specs.Packets.{Packet, packet, packetsIn, packets, isMine, mine, mineFrom, Met, NextIs}
 use Rattle.packets.proofs.Runs.{ones-end}
-
--- what holds in both cases of a test holds of the choice
-by-test {ℓ} : {A : Type ℓ} (P : A → Type 0) (b : Bool) {x y : A} → (b ≡ true → P x) → (b ≡ false → P y) → P (cond b x y)
-by-test P true f g = f refl
-by-test P false f g = g refl
 
 -- a step goes forward, and stays in the file
 abbrev pub Forward : List ℕ → ℕ → Step → Type 0
@@ -182,6 +178,15 @@ walk-begun file h = rw h
 pub walk-not : (file : List ℕ) → begins file ≡ false → ending (walk file) ≡ Refused (refusal 1 0)
 unfolding walk ending
 walk-not file h = rw h
+
+-- a walk that ends well gives the place 0
+pub ended : (steps : List Step) (n : ℕ) → ending steps ≡ Given n → n ≡ 0
+unfolding ending
+ended [] n e = cc
+ended (End ∷ r) n e = cc
+ended (Broken f ∷ r) n e = let z : _≡_ {A = ℕ} 0 1 = cc in let y : ⊥ = omega arith in absurd y
+ended (Skip next ∷ r) n e = ended r n e
+ended (Meet head start len next ∷ r) n e = ended r n e
 
 -- of a walk that ends well, the packets are those from position 2 on
 pub mine-all : (file : List ℕ) (kind instance count : ℕ) → ending (walk file) ≡ Given count → mine kind instance (packets file) ≡ mineFrom file kind instance 2

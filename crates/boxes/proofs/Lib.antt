@@ -1,0 +1,5 @@
+pub mod Order
+pub mod Passes
+pub mod Puts
+pub mod Answers
+pub mod Cases

@@ -1,0 +1,61 @@
+-- `numbers::count_from` meets its contract: what was counted and what is left make the whole count.
+use Rattle.packets.proofs.Walking.{met, gone}
+use Rattle.numbers.proofs.Counts.{numbers-met, numbers-gone, count-turn, count-end}
+use Rattle.numbers.specs.Numbers.{numbersFrom, count}
+use lib.ListN.{length}
+use Prim.Native.Nat.{_+_, _-_, _≤_}
+use mathlib.Core.Path.{_≡_}
+use native.Mathlib.Omega.{arith}
+use borrow.Author.Needs.{needs}
+use Rattle.numbers.proofs.count_from.Statement.{statement}
+use Rattle.numbers.proofs.count_from.Tie as tie
+
+abbrev Inv-loop : tie.InvT-loop
+Inv-loop file kind instance from q at₀ n₀ at n = (n + count q (numbersFrom file kind instance at) ≡ count q (numbersFrom file kind instance from)) × (n ≤ at)
+
+abbrev μ-loop : tie.MeasureT-loop
+μ-loop file kind instance from q at₀ n₀ at n = length file - at
+
+loop-holds : tie.Need-loop-holds Inv-loop μ-loop
+loop-holds c = search needs
+
+next-mine-requires : tie.Need-next-mine-requires Inv-loop μ-loop
+next-mine-requires c κs = search needs
+
+enum-told : tie.Need-enum-told Inv-loop μ-loop
+enum-told c = search needs
+
+returns : tie.Need-returns Inv-loop μ-loop
+returns c = count-end _ _ _ (c .before .before .before .loop .inv .0) (numbers-gone _ _ _ _ (gone _ _ _ _ (c .before .before .next-mine .ensures) (c .enum-told .given .1)))
+
+enum-known-head : tie.Need-enum-known-head Inv-loop μ-loop
+enum-known-head c = search needs
+
+cast-tick : tie.Need-cast-tick Inv-loop μ-loop
+cast-tick c = search needs
+
+tick-requires : tie.Need-tick-requires Inv-loop μ-loop
+tick-requires c κs = let m = met _ _ _ _ (c .before .before .before .before .next-mine .ensures) (c .before .before .head .given .1) in omega arith
+
+loop-less : tie.Need-loop-less Inv-loop μ-loop
+loop-less c = let m = met _ _ _ _ (c .before .before .before .before .before .next-mine .ensures) (c .before .before .before .head .given .1) in omega arith
+
+loop-again : tie.Need-loop-again Inv-loop μ-loop
+loop-again c = let m = met _ _ _ _ (c .before .before .before .before .before .next-mine .ensures) (c .before .before .before .head .given .1) in
+    (rw (c .tick .ensures .0) (count-turn _ _ _ (c .before .before .before .before .before .before .loop .inv .0) (numbers-met m)), omega arith)
+
+pub count-from-spec : {M : Type 1} → statement M
+count-from-spec =
+    tie.close
+    (tie.spec
+    Inv-loop
+    μ-loop
+    loop-holds
+    next-mine-requires
+    enum-told
+    returns
+    enum-known-head
+    cast-tick
+    tick-requires
+    loop-less
+    loop-again)
