@@ -23,7 +23,7 @@ use Rattle.boxes.specs.declared.Fault.{Fault}
 use Rattle.boxes.specs.declared.Fault.the-variants.{Fine, Twice, Missing}
 use Rattle.boxes.specs.Box.{agree, contents, total, joined, assembled, assemble, afterWalk, boxOf}
 use Rattle.boxes.specs.Order.{payloads, inOrder}
-use Rattle.boxes.specs.Pass.{mineOf, faultBy, faultOf, Whole, ReadyIs, putAt}
+use Rattle.boxes.specs.Pass.{mineOf, faultBy, faultOf, Numbered, Whole, ReadyIs, putAt}
 use Rattle.boxes.specs.declared.Ready.{Ready}
 use Rattle.boxes.specs.declared.Ready.the-variants.{Not, Yes}
 use Rattle.boxes.proofs.Order.{numbers-length, fine-total, order-twice, order-missing, order-joined}
@@ -44,7 +44,7 @@ module _ (ns : List ℕ) where
   unfolding faultOf
   fault-missing t m = rw (t, m)
 
-  told-fine : faultOf ns ≡ Fine → (twice ns ≡ Nothing) × (missing ns ≡ Nothing)
+  pub told-fine : faultOf ns ≡ Fine → (twice ns ≡ Nothing) × (missing ns ≡ Nothing)
   unfolding faultOf
   told-fine e = go (twice ns) refl (missing ns) refl e
     where
@@ -155,12 +155,12 @@ module _ (file : List ℕ) (kind instance room : ℕ) where
 
 -- ---- what is handed out
 
-module _ {file : List ℕ} {ps : List Packet} {room : ℕ} {v : Verdict ℕ} {n sum : ℕ} {ordered : Bool} (w : Whole file ps room v n sum ordered) where
+module _ {ps : List Packet} {room : ℕ} {v : Verdict ℕ} {n sum : ℕ} {ordered : Bool} (w : Whole ps room v n sum ordered) where
   bytes-room : length (joined ps) ≤ room
   bytes-room = omega (arith, w .size, w .fits)
 
-  pub number-room : (n ≤ length file) × (n ≡ length ps) × (length (joined ps) ≤ room)
-  number-room = (w .few, w .many, bytes-room)
+  pub number-room : Numbered ps n room
+  number-room = record { many = w .many; once = w .once; fits = bytes-room }
 
   pub put-tried : (d after : List ℕ) → after ≡ putAt d 0 (joined ps) → Tried 0 v d after (Given sum)
   put-tried d after e = tried-given (ap Given (sym (w .size))) (w .says) (e ∙ put-front d (joined ps))
@@ -174,9 +174,9 @@ module _ {file : List ℕ} {ps : List Packet} {room : ℕ} {v : Verdict ℕ} {n 
   pub order-tried : ordered ≡ true → (d after : List ℕ) → after ≡ putAt d 0 (payloads ps) → Tried 0 v d after (Given sum)
   order-tried o d after e = put-tried d after (e ∙ ap (putAt d 0) (sym (ordered-bytes o)))
 
-pub ready-yes : (file : List ℕ) (ps : List Packet) (room : ℕ) (v : Verdict ℕ) {r : Ready} {n sum : ℕ} {ordered : Bool} → ReadyIs file ps room v r → r ≡ Yes n sum ordered
-    → Whole file ps room v n sum ordered
-ready-yes file ps room v h e = subst (ReadyIs file ps room v) e h
+pub ready-yes : (ps : List Packet) (room : ℕ) (v : Verdict ℕ) {r : Ready} {n sum : ℕ} {ordered : Bool} → ReadyIs ps room v r → r ≡ Yes n sum ordered
+    → Whole ps room v n sum ordered
+ready-yes ps room v h e = subst (ReadyIs ps room v) e h
 
-pub ready-not : (file : List ℕ) (ps : List Packet) (room : ℕ) (v : Verdict ℕ) {r : Ready} {f : Refusal} → ReadyIs file ps room v r → r ≡ Not f → v ≡ refused f
-ready-not file ps room v h e = subst (ReadyIs file ps room v) e h
+pub ready-not : (ps : List Packet) (room : ℕ) (v : Verdict ℕ) {r : Ready} {f : Refusal} → ReadyIs ps room v r → r ≡ Not f → v ≡ refused f
+ready-not ps room v h e = subst (ReadyIs ps room v) e h

@@ -20,7 +20,7 @@ use Rattle.packets.specs.Walk.{walk, ending}
 use Rattle.packets.specs.Packets.{Packet, packets, mine}
 use Rattle.packets.proofs.Walking.{ended}
 use Rattle.numbers.specs.Numbers.{numbers, count, twice, missingFrom, missing}
-use Rattle.numbers.proofs.Counts.{count-here, count-other, count-grows}
+use Rattle.numbers.proofs.Counts.{numbers-append, count-here, count-other, count-grows}
 use Rattle.numbers.proofs.Smallest.{never-twice, twice-none, never-missing, missing-none}
 use Rattle.boxes.specs.Box.{alike, agree, contents, total, numbered, joinedFrom, joined, assembled, assemble, afterWalk, boxOf}
 use Rattle.boxes.specs.Order.{Reordered, none, keep, swap, both, counting, payloads, Makes, HandedOut, inOrder}
@@ -242,11 +242,6 @@ only-numbers q (p ∷ r) =
     (λ t. rw t (ap₂ (λ (x : ℕ) (y : List ℕ). x ∷ y) (eqb-true (p .head .number) q t) (only-numbers q r)))
     (λ t. rw t (only-numbers q r))
     (either (eqb (p .head .number) q))
-
-numbers-append : (a b : List Packet) → numbers (a ++ b) ≡ numbers a ++ numbers b
-unfolding numbers
-numbers-append [] b = refl
-numbers-append (p ∷ a) b = rw (numbers-append a b)
 
 sorted-reads : (k q : ℕ) (ps : List Packet) → ((j : ℕ) → q ≤ j → j < q + k → count j (numbers ps) ≡ 1) → numbers (sorted k q ps) ≡ counting q k
 unfolding numbers sorted counting replicated

@@ -9,7 +9,7 @@ use borrow.Author.Fill.{fill-more}
 use lib.ListN.{length, take, drop, set, getD, replicate, length-drop, length-append}
 use lib.Seq.{length-take-le, take-at, drop-append-add, drop-drop, drop-length, getD-drop, paste, paste-zero, paste-suc}
 use borrow.Author.Tests.{eq-eqb, ne-eqb}
-use Rattle.boxes.specs.Box.{numbered, joinedFrom, joined}
+use Rattle.boxes.specs.Box.{joinedFrom, joined}
 use Rattle.packets.specs.declared.Head.{Head}
 use Rattle.packets.specs.Packets.{Packet, mineFrom, Met}
 use Rattle.boxes.specs.Order.{payloads}
@@ -93,18 +93,6 @@ write-done {d} {rest} {d₀} {all} {end} {to} w e =
 
 -- ---- the texts of a list of packets
 
-pub numbered-here : (q : ℕ) {ps r : List Packet} {p : Packet} → ps ≡ p ∷ r → p .head .number ≡ q → numbered q ps ≡ p .payload ++ numbered q r
-unfolding numbered
-numbered-here q {ps} {r} {p} e h = ap (numbered q) e ∙ rw (eq-eqb (p .head .number) q h)
-
-pub numbered-other : (q : ℕ) {ps r : List Packet} {p : Packet} → ps ≡ p ∷ r → (p .head .number ≡ q → ⊥) → numbered q ps ≡ numbered q r
-unfolding numbered
-numbered-other q {ps} {r} {p} e h = ap (numbered q) e ∙ rw (ne-eqb (p .head .number) q h)
-
-pub numbered-none : (q : ℕ) {ps : List Packet} → ps ≡ [] → numbered q ps ≡ []
-unfolding numbered
-numbered-none q e = ap (numbered q) e
-
 pub payloads-here : {ps r : List Packet} {p : Packet} → ps ≡ p ∷ r → payloads ps ≡ p .payload ++ payloads r
 unfolding payloads
 payloads-here e = ap payloads e
@@ -113,26 +101,7 @@ pub payloads-none : {ps : List Packet} → ps ≡ [] → payloads ps ≡ []
 unfolding payloads
 payloads-none e = ap payloads e
 
-pub joined-more : (ps : List Packet) (k q : ℕ) → 0 < k → joinedFrom k q ps ≡ numbered q ps ++ joinedFrom (k - 1) (q + 1) ps
-unfolding joinedFrom
-joined-more ps zero q h = absurd (omega arith)
-joined-more ps (suc k) q h = let e : suc k - 1 ≡ k = omega arith in rw (e, add-one)
-
-pub joined-none : (ps : List Packet) (k q : ℕ) → k ≡ 0 → joinedFrom k q ps ≡ []
-unfolding joinedFrom
-joined-none ps zero q h = refl
-joined-none ps (suc k) q h = absurd (omega arith)
-
 -- ---- a turn of each pass that writes: there is room for the piece, and once it is written the rest is left
-
-pub numbered-turn : {file : List ℕ} {kind instance at q : ℕ} {head : Head} {start len next : ℕ} {d d₀ all : List ℕ} {end to : ℕ} → Writing d end (numbered q (mineFrom file kind instance at)) d₀ to all
-    → Met file kind instance at head start len next → head .number ≡ q
-    → (end + len ≤ length d) × ((d′ : List ℕ) → d′ ≡ putAt d end (take len (drop start file)) → Writing d′ (end + len) (numbered q (mineFrom file kind instance next)) d₀ to all)
-numbered-turn {file} {kind} {instance} {at} {q} {head} {start} {len} {next} {d} {d₀} {all} {end} {to} w m h =
-    let a : List ℕ = take len (drop start file) in
-    let z : length a ≡ len = part-length file start len (omega arith) in
-    let e : numbered q (mineFrom file kind instance at) ≡ a ++ numbered q (mineFrom file kind instance next) = numbered-here q (m .list) h in
-    (omega (arith, write-room w a (numbered q (mineFrom file kind instance next)) e), λ d′ f. write-more w a (numbered q (mineFrom file kind instance next)) e f z)
 
 pub payload-turn : {file : List ℕ} {kind instance at : ℕ} {head : Head} {start len next : ℕ} {d d₀ all : List ℕ} {end to : ℕ} → Writing d end (payloads (mineFrom file kind instance at)) d₀ to all
     → Met file kind instance at head start len next
@@ -142,16 +111,3 @@ payload-turn {file} {kind} {instance} {at} {head} {start} {len} {next} {d} {d₀
     let z : length a ≡ len = part-length file start len (omega arith) in
     let e : payloads (mineFrom file kind instance at) ≡ a ++ payloads (mineFrom file kind instance next) = payloads-here (m .list) in
     (omega (arith, write-room w a (payloads (mineFrom file kind instance next)) e), λ d′ f. write-more w a (payloads (mineFrom file kind instance next)) e f z)
-
-pub joined-turn : (ps : List Packet) (k q : ℕ) {d d₀ all : List ℕ} {end to : ℕ} → Writing d end (joinedFrom k q ps) d₀ to all → 0 < k
-    → (end + length (numbered q ps) ≤ length d)
-    × ((d′ : List ℕ) (r : ℕ) → d′ ≡ putAt d end (numbered q ps) → r ≡ end + length (numbered q ps) → Writing d′ r (joinedFrom (k - 1) (q + 1) ps) d₀ to all)
-joined-turn ps k q {d} {d₀} {all} {end} {to} w h =
-    let a : List ℕ = numbered q ps in
-    let b : List ℕ = joinedFrom (k - 1) (q + 1) ps in
-    let e : joinedFrom k q ps ≡ a ++ b = joined-more ps k q h in
-    (write-room w a b e, λ d′ r f g. subst (λ (j : ℕ). Writing d′ j b d₀ to all) (sym g) (write-more w a b e f refl))
-
-pub joined-start : (ps : List Packet) (n : ℕ) → n ≡ length ps → (d : List ℕ) → length (joined ps) ≤ length d → Writing d 0 (joinedFrom n 1 ps) d 0 (joined ps)
-unfolding joined
-joined-start ps n e d h = rw e (write-start d 0 (joinedFrom (length ps) 1 ps) (omega arith))

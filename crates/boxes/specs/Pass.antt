@@ -15,7 +15,7 @@ use Rattle.boxes.specs.declared.Ready.{Ready}
 use Rattle.boxes.specs.declared.Ready.the-variants.{Not, Yes}
 use Rattle.boxes.specs.declared.Fault.{Fault}
 use Rattle.boxes.specs.declared.Fault.the-variants.{Fine, Twice, Missing}
-use Rattle.boxes.specs.Box.{agree, total, joined}
+use Rattle.boxes.specs.Box.{agree, total, joinedFrom, joined}
 use Rattle.boxes.specs.Order.{inOrder}
 
 -- the packets of a type and instance, of a whole file whose walk ends well
@@ -42,17 +42,29 @@ faultOf ns = faultBy (twice ns) (missing ns)
 unfoldable pub putAt : List ℕ → ℕ → List ℕ → List ℕ
 putAt d at b = take at d ++ b ++ drop (at + length b) d
 
+-- n packets whose numbers read 1 to n in some order, and room for their payloads
+pub record Numbered (ps : List Packet) (n room : ℕ) : Type 0 where
+  pub many : n ≡ length ps
+  pub once : faultOf (numbers ps) ≡ Fine
+  pub fits : length (joined ps) ≤ room
+
+-- the same for the k packets behind number `passed`, with places for them
+pub record Windowed (ps : List Packet) (passed k places to room : ℕ) : Type 0 where
+  pub few : passed + k ≤ length ps
+  pub held : k ≤ places
+  pub once : faultOf (numbers ps) ≡ Fine
+  pub fits : to + length (joinedFrom k (passed + 1) ps) ≤ room
+
 -- the bytes can be handed out: how many packets, how many bytes, and whether they stand in order
-pub record Whole (file : List ℕ) (ps : List Packet) (room : ℕ) (v : Verdict ℕ) (n sum : ℕ) (ordered : Bool) : Type 0 where
+pub record Whole (ps : List Packet) (room : ℕ) (v : Verdict ℕ) (n sum : ℕ) (ordered : Bool) : Type 0 where
   pub says : v ≡ given (joined ps)
   pub size : length (joined ps) ≡ sum
   pub fits : sum ≤ room
   pub many : n ≡ length ps
   pub order : ordered ≡ inOrder 1 (numbers ps)
-  pub few : n ≤ length file
   pub once : faultOf (numbers ps) ≡ Fine
 
 -- what a verdict is, in the code's words
-abbrev pub ReadyIs : List ℕ → List Packet → ℕ → Verdict ℕ → Ready → Type 0
-ReadyIs file ps room v (Not r) = v ≡ refused r
-ReadyIs file ps room v (Yes n sum ordered) = Whole file ps room v n sum ordered
+abbrev pub ReadyIs : List Packet → ℕ → Verdict ℕ → Ready → Type 0
+ReadyIs ps room v (Not r) = v ≡ refused r
+ReadyIs ps room v (Yes n sum ordered) = Whole ps room v n sum ordered

@@ -12,10 +12,10 @@ ghost use lib.ListN.{length, take, drop};
 ghost use lib.Dec.{eqb};
 ghost use Rattle.answers.specs.Verdict.{Meets, Tried, refusal};
 ghost use Rattle.numbers.specs.Numbers.{numbers};
-ghost use Rattle.boxes.specs.Box.{assembled, numbered, joined, boxOf};
+ghost use Rattle.boxes.specs.Box.{assembled, joinedFrom, joined, boxOf};
 ghost use Rattle.boxes.specs.Box.{alike as Box·alike, contents as Box·contents};
 ghost use Rattle.boxes.specs.Order.{inOrder, payloads};
-ghost use Rattle.boxes.specs.Pass.{mineOf, Scanned, faultOf, putAt, ReadyIs};
+ghost use Rattle.boxes.specs.Pass.{mineOf, Scanned, faultOf, putAt, Numbered, Windowed, ReadyIs};
 
 // What one pass over the packets of a type and instance finds.
 pub struct Scan {
@@ -102,13 +102,13 @@ fn scan_all(file: &[u8], kind: u32, instance: u16, h: Head) -> Scan
 // What is wrong with the sequence numbers of n packets. Packets that stand in order need no search, and where none of 1 to n is
 // missing none stands twice.
 fn fault_of(file: &[u8], kind: u32, instance: u16, n: usize, ordered: bool) -> Fault
-    requires { ⌜ (n ≤ length (now file)) × (n ≡ length (mineOf (now file) kind instance)) × (ordered ≡ inOrder 1 (numbers (mineOf (now file) kind instance))) ⌝ }
+    requires { ⌜ (n ≡ length (mineOf (now file) kind instance)) × (ordered ≡ inOrder 1 (numbers (mineOf (now file) kind instance))) ⌝ }
     ensures { λ r. ⌜ r ≡ faultOf (numbers (mineOf (now (file .entry)) kind instance)) ⌝ }
 {
     if ordered {
         return Fault::Fine;
     }
-    match numbers::first_missing(file, kind, instance, n) {
+    match windows::first_missing(file, kind, instance, n) {
         Found::Nothing => Fault::Fine,
         Found::At(m) => match numbers::first_twice(file, kind, instance) {
             Found::At(q) => Fault::Twice(q),
@@ -136,7 +136,7 @@ fn not(number: u32, place: usize) -> Ready
 
 // Whether the packets of a type and instance, of which the first has the head h, make a box that fits into so many bytes.
 fn checked(file: &[u8], kind: u32, instance: u16, h: Head, room: usize) -> Ready
-    ensures { λ r. ⌜ ReadyIs (now (file .entry)) (mineOf (now (file .entry)) kind instance) room (assembled room h (mineOf (now (file .entry)) kind instance)) r ⌝ }
+    ensures { λ r. ⌜ ReadyIs (mineOf (now (file .entry)) kind instance) room (assembled room h (mineOf (now (file .entry)) kind instance)) r ⌝ }
 {
     let c = scan_all(file, kind, instance, h);
     let n = c.n;
@@ -162,7 +162,7 @@ fn checked(file: &[u8], kind: u32, instance: u16, h: Head, room: usize) -> Ready
 
 // Whether a file has the box of a type and instance, and it fits into so many bytes.
 fn judged(file: &[u8], kind: u32, instance: u16, room: usize) -> Ready
-    ensures { λ r. ⌜ ReadyIs (now (file .entry)) (mineOf (now (file .entry)) kind instance) room (boxOf (now (file .entry)) kind instance room) r ⌝ }
+    ensures { λ r. ⌜ ReadyIs (mineOf (now (file .entry)) kind instance) room (boxOf (now (file .entry)) kind instance room) r ⌝ }
 {
     match packets::walk_all(file) {
         Outcome::Refused(r) => Ready::Not(r),
@@ -216,54 +216,72 @@ fn put_in_order(file: &[u8], kind: u32, instance: u16, destination: &mut [u8])
     }
 }
 
-// Puts the payloads of the packets numbered q at position to, and answers the position after them.
-fn put_numbered(
+// Puts the payloads of the k packets behind number `passed` at position to, and answers the position after them. One walk of the
+// file finds where they stand.
+fn put_window(
     file: &[u8],
     kind: u32,
     instance: u16,
-    q: usize,
+    passed: usize,
+    k: usize,
+    places: &mut [usize],
     destination: &mut [u8],
     to: usize,
 ) -> usize
-    requires { ⌜ to + length (numbered q (mineOf (now file) kind instance)) ≤ length (now destination) ⌝ }
-    ensures { λ r. ⌜ (now (destination .exit) ≡ putAt (now (destination .entry)) to (numbered q (mineOf (now (file .entry)) kind instance))) × (r ≡ to + length (numbered q (mineOf (now (file .entry)) kind instance))) ⌝ }
+    requires { ⌜ Windowed (mineOf (now file) kind instance) passed k (length (now places)) to (length (now destination)) ⌝ }
+    ensures { λ r. ⌜ (now (destination .exit) ≡ putAt (now (destination .entry)) to (joinedFrom k (passed + 1) (mineOf (now (file .entry)) kind instance))) × (r ≡ to + length (joinedFrom k (passed + 1) (mineOf (now (file .entry)) kind instance))) ⌝ }
 {
-    let mut at: usize = 2;
+    windows::locate(file, kind, instance, passed, places);
+    let mut i: usize = 0;
     let mut end = to;
-    loop {
-        match packets::next_mine(file, kind, instance, at) {
+    while i < k {
+        match packets::next_mine(file, kind, instance, places[i]) {
             Next::Gone => {
                 return end;
             }
             Next::Mine {
-                head,
+                head: _,
                 start,
                 len,
-                next,
+                next: _,
             } => {
-                if head.number as usize == q {
-                    copy_part(file, start, len, destination, end);
-                    end += len;
-                }
-                at = next;
+                copy_part(file, start, len, destination, end);
+                end += len;
+                i += 1;
             }
         }
+    }
+    end
+}
+
+// Puts the payloads of n packets at the front, by number, with an array that takes the places of a window.
+fn put_windows(
+    file: &[u8],
+    kind: u32,
+    instance: u16,
+    n: usize,
+    places: &mut [usize],
+    destination: &mut [u8],
+)
+    requires { ⌜ (0 < length (now places)) × Numbered (mineOf (now file) kind instance) n (length (now destination)) ⌝ }
+    ensures { λ _. ⌜ now (destination .exit) ≡ putAt (now (destination .entry)) 0 (joined (mineOf (now (file .entry)) kind instance)) ⌝ }
+{
+    let mut passed: usize = 0;
+    let mut to: usize = 0;
+    while passed < n {
+        let k = windows::lesser(n - passed, places.len());
+        to = put_window(file, kind, instance, passed, k, places, destination, to);
+        passed += k;
     }
 }
 
 // Puts the payloads of n packets at the front, by number.
 fn put_by_number(file: &[u8], kind: u32, instance: u16, n: usize, destination: &mut [u8])
-    requires { ⌜ (n ≤ length (now file)) × (n ≡ length (mineOf (now file) kind instance)) × (length (joined (mineOf (now file) kind instance)) ≤ length (now destination)) ⌝ }
+    requires { ⌜ Numbered (mineOf (now file) kind instance) n (length (now destination)) ⌝ }
     ensures { λ _. ⌜ now (destination .exit) ≡ putAt (now (destination .entry)) 0 (joined (mineOf (now (file .entry)) kind instance)) ⌝ }
 {
-    let mut q: usize = 1;
-    let mut k = n;
-    let mut to: usize = 0;
-    while 0 < k {
-        to = put_numbered(file, kind, instance, q, destination, to);
-        q += 1;
-        k -= 1;
-    }
+    let mut places = [0usize; 4096];
+    put_windows(file, kind, instance, n, &mut places, destination);
 }
 
 fn try_box(file: &[u8], kind: u32, instance: u16, destination: &mut [u8]) -> Outcome

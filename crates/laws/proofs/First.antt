@@ -1,6 +1,6 @@
 -- Laws of `firstFail`: how a loop makes it, and what a caller reads from it. Assumes nothing.
 use mathlib.Core.Path.{_≡_, refl, sym, ap, subst, _∙_}
-use mathlib.Core.Logic.{⊎-elim}
+use mathlib.Core.Logic.{_⊎_, inl, inr, ⊎-elim}
 use mathlib.Core.Bool.{Bool, true, false}
 use Prim.Native.Nat.{ℕ, zero, suc, _+_, _<_, _≤_}
 use native.Mathlib.Nat.{eq-or-lt-of-le, le-of-suc-le-suc, not-suc-le-zero}
@@ -50,3 +50,19 @@ pub all-pass : (n : ℕ) (test : ℕ → Bool) → ((k : ℕ) → k < n → test
 unfolding firstFail orHere
 all-pass zero test h = refl
 all-pass (suc n) test h = rw (all-pass n test (λ k l. h k (omega arith)), h n (omega arith))
+
+at-step : (o : Found) (b : Bool) (n : ℕ) {i : ℕ} → orHere o b n ≡ At i → (o ≡ At i) ⊎ ((o ≡ Nothing) × (b ≡ false) × (n ≡ i))
+unfolding orHere
+at-step (At a) b n e = inl e
+at-step Nothing true n e = let z : _≡_ {A = ℕ} 0 1 = cc in let y : ⊥ = omega arith in absurd y
+at-step Nothing false n e = inr (refl, refl, cc)
+
+-- what `At` says, for callers
+pub first-at : (n : ℕ) (test : ℕ → Bool) {i : ℕ} → firstFail n test ≡ At i → (i < n) × (test i ≡ false) × ((k : ℕ) → k < i → test k ≡ true)
+unfolding firstFail
+first-at zero test e = let z : _≡_ {A = ℕ} 0 1 = cc in let y : ⊥ = omega arith in absurd y
+first-at (suc n) test {i} e =
+    ⊎-elim
+    (λ (f : firstFail n test ≡ At i). let r = first-at n test f in (omega arith, r .1, r .2))
+    (λ (f : (firstFail n test ≡ Nothing) × (test n ≡ false) × (n ≡ i)). (omega arith, subst (λ (m : ℕ). test m ≡ false) (f .2) (f .1), λ k l. first-none n test (f .0) k (omega arith)))
+    (at-step (firstFail n test) (test n) n e)

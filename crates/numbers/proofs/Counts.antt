@@ -1,7 +1,7 @@
 -- Laws of `count`, `twice` and `missing`: what a turn of a loop does, what they say of every number, and the pigeonhole. Assumes nothing.
 use Prim.Native.Nat.{ℕ, zero, suc, _+_, _-_, _≤_, _<_, min}
 use mathlib.Core.Path.{_≡_, refl, ap, sym, subst, _∙_}
-use mathlib.Core.List.{List, [], _∷_}
+use mathlib.Core.List.{List, [], _∷_, _++_}
 use mathlib.Core.Bool.{Bool, true, false, cond}
 use mathlib.Core.Logic.{⊎-elim}
 use native.Mathlib.Omega.{arith}
@@ -27,6 +27,11 @@ pub numbers-gone : (file : List ℕ) (kind instance at : ℕ) → mineFrom file 
 unfolding numbersFrom numbers
 numbers-gone file kind instance at e = ap numbers e
 
+pub numbers-append : (a b : List Packet) → numbers (a ++ b) ≡ numbers a ++ numbers b
+unfolding numbers
+numbers-append [] b = refl
+numbers-append (p ∷ a) b = rw (numbers-append a b)
+
 -- ---- how often a number stands
 
 pub count-turn : (ns : List ℕ) (n q : ℕ) {t x : ℕ} {r : List ℕ} → n + count q ns ≡ t → ns ≡ x ∷ r → cond (eqb x q) (n + 1) n + count q r ≡ t
@@ -42,6 +47,10 @@ pub count-end : (ns : List ℕ) (n q : ℕ) {t : ℕ} → n + count q ns ≡ t �
 unfolding count
 count-end ns n q {t} h e = let g : n + 0 ≡ t = (rw e at h) in omega arith
 
+pub count-none : (q : ℕ) → count q [] ≡ 0
+unfolding count
+count-none q = refl
+
 pub count-here : (x q : ℕ) (r : List ℕ) → x ≡ q → count q (x ∷ r) ≡ suc (count q r)
 unfolding count
 count-here x q r e = rw (eq-eqb x q e)
@@ -53,6 +62,15 @@ count-other x q r n = rw (ne-eqb x q n)
 pub count-grows : (x q : ℕ) (r : List ℕ) → count q r ≤ count q (x ∷ r)
 unfolding count
 count-grows x q r = ⊎-elim (λ e. rw e (omega arith)) (λ e. rw e (omega arith)) (either (eqb x q))
+
+pub count-append : (q : ℕ) (a b : List ℕ) → count q (a ++ b) ≡ count q a + count q b
+unfolding count
+count-append q [] b = omega arith
+count-append q (x ∷ a) b = go (eqb x q) (count-append q a b)
+  where
+    go : (d : Bool) → count q (a ++ b) ≡ count q a + count q b → cond d (suc (count q (a ++ b))) (count q (a ++ b)) ≡ cond d (suc (count q a)) (count q a) + count q b
+    go true e = omega arith
+    go false e = e
 
 -- ---- the smallest number that stands twice
 

@@ -12,7 +12,7 @@ use Rattle.laws.specs.declared.Found.{Found}
 use Rattle.laws.specs.declared.Found.the-variants.{At, Nothing}
 use Rattle.laws.proofs.Choices.{either, at-one, at-nothing}
 use Rattle.numbers.specs.Numbers.{count, least, twice, missingFrom, missing, within, between}
-use Rattle.numbers.proofs.Counts.{count-here, count-other, count-grows}
+use Rattle.numbers.proofs.Counts.{count-none, count-here, count-other, count-grows}
 
 -- ---- a number that stands twice
 
@@ -27,14 +27,10 @@ least-above q Nothing y b = (tt, b)
 least-above q (At c) Nothing b = (b, tt)
 least-above q (At c) (At d) b = (omega arith, omega arith)
 
-none-twice : (j : ℕ) → count j [] ≤ 1
-unfolding count
-none-twice j = omega arith
-
 -- each number below what `twice` gives stands once at most
 twice-above : (ns : List ℕ) (q : ℕ) → Above q (twice ns) → (j : ℕ) → j < q → count j ns ≤ 1
 unfolding twice
-twice-above [] q a j l = none-twice j
+twice-above [] q a j l = omega (arith, count-none j)
 twice-above (x ∷ r) q a j l =
     let s = least-above q (cond (eqb (count x r) 0) Nothing (At x)) (twice r) a in
     ⊎-elim
@@ -145,6 +141,16 @@ missing-is ns k a q g l z h = go (missingFrom k a ns) refl
         pick m true s d t = absurd (omega (arith, h p (m .0) (ltb-true p q s), m .2))
         pick m false s true t = absurd (omega (arith, m .3 q g (ltb-true q p t)))
         pick m false s false t = e ∙ ap At (omega (arith, ltb-false p q s, ltb-false q p t))
+
+-- numbers that stand can be passed
+pub missing-more-than : (ns : List ℕ) (k a l : ℕ) → ((j : ℕ) → a ≤ j → j < a + k → 1 ≤ count j ns) → missingFrom (k + l) a ns ≡ missingFrom l (a + k) ns
+unfolding missingFrom
+missing-more-than ns zero a l h = let e : 0 + l ≡ l = omega arith in let f : a + 0 ≡ a = omega arith in rw (e, f)
+missing-more-than ns (suc k) a l h =
+    let g : 1 ≤ count a ns = h a (omega arith) (omega arith) in
+    let e : suc k + l ≡ suc (k + l) = omega arith in
+    let f : a + suc k ≡ suc a + k = omega arith in
+    rw (e, f, ne-eqb (count a ns) 0 (λ z. omega arith)) (missing-more-than ns k (suc a) l (λ j u v. h j (omega arith) (omega arith)))
 
 -- ---- the pigeonhole
 

@@ -1,5 +1,5 @@
 -- 01, refusals 6 and 7: the number that stands twice, and the one that is missing.
-use Prim.Native.Nat.{ℕ, zero, suc, min}
+use Prim.Native.Nat.{ℕ, zero, suc, min, _≤_, _<_}
 use mathlib.Core.List.{List, [], _∷_}
 use mathlib.Core.Bool.{Bool, true, false, cond}
 use lib.ListN.{length}
@@ -50,3 +50,13 @@ within lo hi x = cond (ltb x lo) false (ltb x hi)
 unfoldable pub between : ℕ → ℕ → List ℕ → ℕ
 between lo hi [] = 0
 between lo hi (x ∷ r) = cond (within lo hi x) (suc (between lo hi r)) (between lo hi r)
+
+-- those that lie there
+unfoldable pub chosen : ℕ → ℕ → List ℕ → List ℕ
+chosen lo hi [] = []
+chosen lo hi (x ∷ r) = cond (within lo hi x) (x ∷ chosen lo hi r) (chosen lo hi r)
+
+-- what a search from lo on and below hi says of the numbers that stand twice
+abbrev pub TwiceIn : ℕ → ℕ → List ℕ → Found → Type 0
+TwiceIn lo hi ns Nothing = (j : ℕ) → lo ≤ j → j < hi → count j ns ≤ 1
+TwiceIn lo hi ns (At q) = (1 < count q ns) × ((j : ℕ) → lo ≤ j → j < q → count j ns ≤ 1)

@@ -66,7 +66,6 @@ returns-6 c = let s = c .before .before .before .before .before .before .before 
       fits = omega arith;
       many = s .lengths;
       order = s .orders;
-      few = c .before .before .before .before .before .before .before .before .scan-all .ensures .1 .0;
       once = (sym (c .before .before .before .before .before .fault-of .ensures) ∙ c .before .before .before .enum-told .given .1);
     }
 

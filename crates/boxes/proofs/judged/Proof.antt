@@ -42,7 +42,7 @@ returns-2 c = rw (c .not .ensures) (file-none _ _ _ _ (sym (c .before .before .b
 returns-3 : tie.Need-returns-3
 returns-3 c = let a = c .before .before .before .before .before .before .before .before .before .args in
     let m = met _ _ _ _ (c .before .before .before .before .next-mine .ensures) (c .before .before .head .given .1) in
-    subst (λ (v : Verdict ℕ). ReadyIs (a .file .now) (mineOf (a .file .now) (a .kind) (a .instance)) (a .room) v (c .checked .result)) (sym (file-some _ _ _ _ (sym (c .before .before .before .before .before .before .before .walk-all .ensures) ∙ c .before .before .before .before .before .enum-told .given .1) m))
+    subst (λ (v : Verdict ℕ). ReadyIs (mineOf (a .file .now) (a .kind) (a .instance)) (a .room) v (c .checked .result)) (sym (file-some _ _ _ _ (sym (c .before .before .before .before .before .before .before .walk-all .ensures) ∙ c .before .before .before .before .before .enum-told .given .1) m))
     (c .checked .ensures)
 
 pub judged-spec : {M : Type 1} → statement M
