@@ -65,12 +65,6 @@ unfolding every
 every-rest true bs e = e
 every-rest false bs e = let z : _≡_ {A = ℕ} 0 1 = cc in let y : ⊥ = omega arith in absurd y
 
--- one test alone
-pub every-one : (b : Bool) → every (b ∷ []) ≡ b
-unfolding every
-every-one true = refl
-every-one false = refl
-
 -- ---- a test that antt computes at each number below n
 
 abbrev pub both : Bool → Bool → Bool
