@@ -4,8 +4,28 @@ ghost use mathlib.Core.Path.{_≡_};
 ghost use lib.IntN.{pos};
 ghost use lib.ListN.{length};
 ghost use Rattle.answers.specs.Verdict.{Meets};
+ghost use Rattle.boxes.specs.Box.{boxOf};
+ghost use Rattle.codes.specs.Table.{table};
 ghost use Rattle.planes.specs.Dc.{readDc, writeDc};
+ghost use Rattle.planes.specs.AcRead.{readAc};
+ghost use Rattle.reader_c.specs.Merge.{colourOf, curveOf, matrixOf, residualOf, known, matrixCount, weightsOf, settingOf, barred, mergeCall};
 ghost use Rattle.transform.specs.Call.{inverseTransform};
+
+// One box, assembled from its packets.
+#[no_mangle]
+pub extern "C" fn xt_box_bytes(
+    file: &[u8],
+    kind: u32,
+    instance: u16,
+    destination: &mut [u8],
+    place: &mut u64,
+) -> u32
+    ensures { λ r. ⌜ Meets 0 (boxOf (now (file .entry)) kind instance (length (now (destination .entry)))) (now (destination .entry)) (now (destination .exit)) (record { number = r; place = now (place .exit) }) ⌝ }
+{
+    let a = boxes::box_bytes(file, kind, instance, destination);
+    *place = a.place as u64;
+    a.number
+}
 
 // A DC plane read: level plane-1 values to level plane.
 #[no_mangle]
@@ -53,6 +73,197 @@ pub extern "C" fn xt_inverse_transform(
     ensures { λ r. ⌜ Meets (pos 0) (inverseTransform refinement blocks (now (values .entry)) (now (quantisers .entry)) (length (now (destination .entry)))) (now (destination .entry)) (now (destination .exit)) (record { number = r; place = now (place .exit) }) ⌝ }
 {
     let a = transform::inverse_transform(refinement, blocks, values, quantisers, destination);
+    *place = a.place as u64;
+    a.number
+}
+
+// An AC plane read.
+#[no_mangle]
+pub extern "C" fn xt_read_ac_plane(
+    plane: u32,
+    blocks: usize,
+    counts: &[u8],
+    codes: &[u8],
+    data: &[u8],
+    values: &[i32],
+    destination: &mut [i32],
+    place: &mut u64,
+) -> u32
+    ensures { λ r. ⌜ Meets (pos 0) (readAc plane blocks (table (now (counts .entry)) (now (codes .entry))) (now (values .entry)) (now («data» .entry)) (length (now (destination .entry)))) (now (destination .entry)) (now (destination .exit)) (record { number = r; place = now (place .exit) }) ⌝ }
+{
+    let a = ac_reader::read_ac(plane, blocks, counts, codes, data, values, destination);
+    *place = a.place as u64;
+    a.number
+}
+
+// 0 identity, 1 the transform.
+fn colour(n: u32) -> pixel::Colour
+    ensures { λ r. ⌜ r ≡ colourOf n ⌝ }
+{
+    match n {
+        1 => pixel::Colour::Transform,
+        _ => pixel::Colour::Identity,
+    }
+}
+
+// 0 straight, 1 the lent table, 2 inverse sRGB.
+fn curve_of(n: u32) -> curves::Curve
+    ensures { λ r. ⌜ r ≡ curveOf n ⌝ }
+{
+    match n {
+        1 => curves::Curve::Table,
+        2 => curves::Curve::Srgb,
+        _ => curves::Curve::Straight,
+    }
+}
+
+fn matrix_of(n: u32) -> pixel::Matrix
+    ensures { λ r. ⌜ r ≡ matrixOf n ⌝ }
+{
+    match n {
+        1 => pixel::Matrix::On,
+        _ => pixel::Matrix::None,
+    }
+}
+
+fn residual_of(n: u32) -> pixel::Residual
+    ensures { λ r. ⌜ r ≡ residualOf n ⌝ }
+{
+    match n {
+        1 => pixel::Residual::Present,
+        _ => pixel::Residual::Absent,
+    }
+}
+
+// Whether each number names something.
+fn known(base: u32, curve: u32, matrix: u32, residual: u32, transform: u32) -> bool
+    ensures { λ r. ⌜ r ≡ known base curve matrix residual transform ⌝ }
+{
+    if 2 <= base {
+        return false;
+    }
+    if 3 <= curve {
+        return false;
+    }
+    if 2 <= matrix {
+        return false;
+    }
+    if 2 <= residual {
+        return false;
+    }
+    transform < 2
+}
+
+// How many numbers a matrix has.
+fn matrix_count(m: pixel::Matrix) -> usize
+    ensures { λ r. ⌜ r ≡ matrixCount m ⌝ }
+{
+    match m {
+        pixel::Matrix::On => 9,
+        pixel::Matrix::None => 0,
+    }
+}
+
+// The matrix's numbers, or zeros where there are not nine.
+fn weights_of(matrix: &[i16]) -> [i16; 9]
+    ensures { λ r. ⌜ r ≡ weightsOf (now (matrix .entry)) ⌝ }
+{
+    if matrix.len() < 9 {
+        return [0; 9];
+    }
+    [
+        matrix[0],
+        matrix[1],
+        matrix[2],
+        matrix[3],
+        matrix[4],
+        matrix[5],
+        matrix[6],
+        matrix[7],
+        matrix[8],
+    ]
+}
+
+// 20 or 21 by what only this call tests, or 0.
+fn barred(named: bool, s: pixel::Setting, pixels: usize, matrix: &[i16]) -> u32
+    ensures { λ r. ⌜ r ≡ barred named s pixels (now (matrix .entry)) ⌝ }
+{
+    if !named {
+        return 20;
+    }
+    if !settings::in_ranges(s, pixels) {
+        return 20;
+    }
+    if !settings::plain(s) {
+        return 20;
+    }
+    if !settings::srgb_allowed(s) {
+        return 20;
+    }
+    let m = s.matrix;
+    if matrix.len() != matrix_count(m) {
+        return 21;
+    }
+    0
+}
+
+// The merge of a setting that was made, or its refusal.
+fn merge_or_not(
+    named: bool,
+    s: pixel::Setting,
+    pixels: usize,
+    base: &[i32],
+    residual: &[i32],
+    table: &[u16],
+    matrix: &[i16],
+    destination: &mut [u16],
+) -> answers::Answer
+    ensures { λ r. ⌜ Meets 0 (mergeCall named s pixels (now (base .entry)) (now (residual .entry)) (now (table .entry)) (now (matrix .entry)) (length (now (destination .entry)))) (now (destination .entry)) (now (destination .exit)) r ⌝ }
+{
+    let number = barred(named, s, pixels, matrix);
+    if number != 0 {
+        answers::clear_u16(destination);
+        return answers::Answer { number, place: 0 };
+    }
+    merge::merge(s, pixels, base, residual, table, destination)
+}
+
+// The merge to 9 to 16 bits.
+#[no_mangle]
+pub extern "C" fn xt_merge(
+    rb: u32,
+    rh: u32,
+    rr: u32,
+    components: u32,
+    pixels: usize,
+    tint: u32,
+    curve: u32,
+    matrixed: u32,
+    added: u32,
+    retint: u32,
+    base: &[i32],
+    residual: &[i32],
+    table: &[u16],
+    matrix: &[i16],
+    destination: &mut [u16],
+    place: &mut u64,
+) -> u32
+    ensures { λ r. ⌜ Meets 0 (mergeCall (known tint curve matrixed added retint) (settingOf rb rh rr components tint curve matrixed (now (matrix .entry)) added retint) pixels (now (base .entry)) (now (residual .entry)) (now (table .entry)) (now (matrix .entry)) (length (now (destination .entry)))) (now (destination .entry)) (now (destination .exit)) (record { number = r; place = now (place .exit) }) ⌝ }
+{
+    let s = pixel::Setting {
+        rb,
+        rh,
+        rr,
+        components,
+        base_transform: colour(tint),
+        curve: curve_of(curve),
+        matrix: matrix_of(matrixed),
+        weights: weights_of(matrix),
+        residual: residual_of(added),
+        residual_transform: colour(retint),
+    };
+    let named = known(tint, curve, matrixed, added, retint);
+    let a = merge_or_not(named, s, pixels, base, residual, table, matrix, destination);
     *place = a.place as u64;
     a.number
 }

@@ -1,0 +1,72 @@
+-- `reader_c::barred` meets its contract: the tests in their order. Assumes nothing.
+use mathlib.Core.Path.{sym, _∙_}
+use borrow.Author.Tests.{not-true, not-false, eq-eqb, ne-eqb}
+use Rattle.laws.specs.Index.{every}
+use Rattle.reader_c.specs.Merge.{barred}
+use borrow.Author.Needs.{needs}
+use Rattle.reader_c.proofs.barred.Statement.{statement}
+use Rattle.reader_c.proofs.barred.Tie as tie
+
+returns : tie.Need-returns
+unfolding barred every
+returns c = rw (not-true (c .before .args .named) (c .if1 .taken))
+
+in-ranges-requires : tie.Need-in-ranges-requires
+in-ranges-requires c κs = search needs
+
+returns-2 : tie.Need-returns-2
+unfolding barred every
+returns-2 c = rw (not-false (c .before .before .before .args .named) (c .before .before .if1 .left), sym (c .before .in-ranges .ensures) ∙ not-true _ (c .if2 .taken))
+
+plain-requires : tie.Need-plain-requires
+plain-requires c κs = search needs
+
+returns-3 : tie.Need-returns-3
+unfolding barred every
+returns-3 c =
+    let b = c .before .before in
+    rw (not-false (c .before .before .before .before .before .args .named) (b .before .before .if1 .left), sym (b .before .in-ranges .ensures) ∙ not-false _ (b .if2 .left), sym (c .before .plain .ensures) ∙ not-true _ (c .if3 .taken))
+
+srgb-allowed-requires : tie.Need-srgb-allowed-requires
+srgb-allowed-requires c κs = search needs
+
+returns-4 : tie.Need-returns-4
+unfolding barred every
+returns-4 c =
+    let d = c .before .before in
+    let b = d .before .before in
+    rw (not-false (c .before .before .before .before .before .before .before .args .named) (b .before .before .if1 .left), sym (b .before .in-ranges .ensures) ∙ not-false _ (b .if2 .left), sym (d .before .plain .ensures) ∙ not-false _ (d .if3 .left), sym (c .before .srgb-allowed .ensures) ∙ not-true _ (c .if4 .taken))
+
+matrix-count-requires : tie.Need-matrix-count-requires
+matrix-count-requires c κs = search needs
+
+returns-5 : tie.Need-returns-5
+unfolding barred every
+returns-5 c =
+    let e = c .before .before in
+    let d = e .before .before in
+    let b = d .before .before in
+    rw (not-false (c .before .before .before .before .before .before .before .before .before .args .named) (b .before .before .if1 .left), sym (b .before .in-ranges .ensures) ∙ not-false _ (b .if2 .left), sym (d .before .plain .ensures) ∙ not-false _ (d .if3 .left), sym (e .before .srgb-allowed .ensures) ∙ not-false _ (e .if4 .left), ← (c .before .matrix-count .ensures), ne-eqb _ _ (c .if5 .taken))
+
+returns-6 : tie.Need-returns-6
+unfolding barred every
+returns-6 c =
+    let e = c .before .before in
+    let d = e .before .before in
+    let b = d .before .before in
+    rw (not-false (c .before .before .before .before .before .before .before .before .before .args .named) (b .before .before .if1 .left), sym (b .before .in-ranges .ensures) ∙ not-false _ (b .if2 .left), sym (d .before .plain .ensures) ∙ not-false _ (d .if3 .left), sym (e .before .srgb-allowed .ensures) ∙ not-false _ (e .if4 .left), ← (c .before .matrix-count .ensures), eq-eqb _ _ (c .if5 .left))
+
+pub barred-spec : {M : Type 1} → statement M
+barred-spec =
+    tie.close
+    (tie.spec
+    returns
+    in-ranges-requires
+    returns-2
+    plain-requires
+    returns-3
+    srgb-allowed-requires
+    returns-4
+    matrix-count-requires
+    returns-5
+    returns-6)
