@@ -167,7 +167,7 @@ def good(wild):
 
 
 def cases():
-    # the whiteboard: f through a straight curve at Rb 1, g, h
+    # the whiteboard: f through a straight curve at Rb 8, g, h
     yield Case(rb=8, components=3, base_transform=1, base=[100, 128, 138])
     yield Case(rb=4, base=[128])
     yield Case(rb=4, residual_on=1, base=[128], residual=[129])
