@@ -1,2 +1,3 @@
 pub mod Positions
 pub mod Plane
+pub mod Cases

@@ -1,0 +1,65 @@
+// Readings of one AC block, case c of 01 first: a line for each, with the number, the place, and the values at positions 1, 2, 17 and 63.
+fn say(text: &[u8]) {
+    io::write_all(1, text);
+}
+
+// The values that come out here.
+fn say_value(value: i32) {
+    match value {
+        -1 => say(b" -1"),
+        0 => say(b" 0"),
+        1 => say(b" 1"),
+        6 => say(b" 6"),
+        7 => say(b" 7"),
+        _ => say(b" ?"),
+    }
+}
+
+// Plane 1 of one block whose values at positions 1 and 63 are these; the destination is not zero before.
+fn read_one(name: &[u8], codes: &[u8], data: &[u8], first: i32, last: i32) {
+    let counts: [u8; 16] = [0, 3, 0, 0, 0, 0, 0, 0, 0, 0, 0, 0, 0, 0, 0, 0];
+    let mut values = [0i32; 63];
+    values[0] = first;
+    values[62] = last;
+    let mut destination = [9i32; 63];
+    let a = ac_reader::read_ac(
+        1,
+        1,
+        &counts[..],
+        codes,
+        data,
+        &values[..],
+        &mut destination[..],
+    );
+    say(name);
+    say(b" ");
+    io::print_decimal(1, a.number as u64);
+    say(b" ");
+    io::print_decimal(1, a.place as u64);
+    say_value(destination[0]);
+    say_value(destination[1]);
+    say_value(destination[16]);
+    say_value(destination[62]);
+    say(b"\n");
+}
+
+fn main() {
+    // Table T: values 00, 01, F0.
+    read_one(b"new-value", b"\x00\x01\xF0", b"\x67", 0, 0);
+    read_one(b"corrected", b"\x00\x01\xF0", b"\x3F", 3, 0);
+    read_one(b"both", b"\x00\x01\xF0", b"\x43", 3, 0);
+    read_one(b"bad-padding", b"\x00\x01\xF0", b"\x43", 0, 0);
+    read_one(b"no-data", b"\x00\x01\xF0", b"", 0, 0);
+    // What these five do not meet: the sign before the correction, 16 zeros, each refusal of a bit or a code.
+    read_one(b"sign-first", b"\x00\x01\xF0", b"\x63", 3, 0);
+    read_one(b"sixteen-zeros", b"\x00\x01\xF0", b"\x99", 0, 0);
+    read_one(b"no-place", b"\x00\x01\xF0", b"\xAA", 0, 0);
+    read_one(b"no-bit-on-the-way", b"\x00\x01\xF0", b"\xAA", 0, 3);
+    read_one(b"no-place-then", b"\x00\x01\xF0", b"\xAA\x80", 0, 3);
+    read_one(b"run-too-long", b"\x10\x01\xF0", b"\x3F", 0, 0);
+    read_one(b"code-not-used", b"\x00\x01\x02", b"\x80", 0, 0);
+    read_one(b"no-code", b"\x00\x01\xF0", b"\xFF\x00\xFF\x00", 0, 0);
+    read_one(b"marker", b"\x00\x01\xF0", b"\xFF\x01", 0, 0);
+    read_one(b"bad-table", b"\x00\x01\x01", b"\x67", 0, 0);
+    read_one(b"out-of-range", b"\x00\x01\xF0", b"\x67", 0, 2048);
+}
