@@ -1,0 +1,39 @@
+-- `ac_plan::over_task` meets its contract. Assumes nothing.
+use Rattle.ac_plan.specs.Plan.{taskIs, jobIs}
+use Rattle.ac_plan.proofs.Tasks.{over-on}
+use borrow.Author.Needs.{needs}
+use Rattle.ac_plan.proofs.over_task.Statement.{statement}
+use Rattle.ac_plan.proofs.over_task.Tie as tie
+
+enum-known-task : tie.Need-enum-known-task
+enum-known-task c = search needs
+
+returns : tie.Need-returns
+unfolding taskIs jobIs
+returns c = rw (c .before .before .task .given .1, c .if1 .taken)
+
+sub-t5 : tie.Need-sub-t5
+sub-t5 c = search needs
+
+enum-told : tie.Need-enum-told
+enum-told c = search needs
+
+enum-told-2 : tie.Need-enum-told-2
+enum-told-2 c = search needs
+
+returns-2 : tie.Need-returns-2
+unfolding taskIs jobIs
+returns-2 c = rw (c .before .before .task .given .1) (over-on _ (c .if1 .left))
+
+returns-3 : tie.Need-returns-3
+unfolding taskIs jobIs
+returns-3 c = rw (c .enum-told .given .1)
+
+returns-4 : tie.Need-returns-4
+unfolding taskIs jobIs
+returns-4 c = rw (c .enum-told2 .given .1)
+
+pub over-task-spec : {M : Type 1} → statement M
+over-task-spec =
+    tie.close
+    (tie.spec enum-known-task returns sub-t5 enum-told enum-told-2 returns-2 returns-3 returns-4)
