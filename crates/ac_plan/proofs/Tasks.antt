@@ -9,10 +9,10 @@ use native.Mathlib.Omega.{arith}
 use borrow.Author.Tests.{lt-ltb, le-ltb}
 use Rattle.planes.specs.Task.{walk, ended, pass, over}
 use Rattle.planes.specs.AcWrite.{Kind, ahead, quiet, plan}
-use Rattle.ac_plan.specs.Plan.{comingIs, taskIs, Planned}
+use Rattle.ac_tasks.specs.declared.Job.the-variants.{Leave, Set, Ended}
+use Rattle.ac_plan.specs.Plan.{comingIs, Planned}
 use Rattle.ac_plan.specs.declared.Coming.{Coming}
 use Rattle.ac_plan.specs.declared.Coming.the-variants.{Value, Quiet}
-use Rattle.ac_plan.specs.declared.Task.the-variants.{Zeros, New, Ended}
 
 pub pass-on : (n : ℕ) (sign : Option Bool) → (n ≡ 0 → ⊥) → some (walk (n - 1) sign) ≡ pass (walk n sign)
 pass-on zero sign h = absurd (h refl)
@@ -25,14 +25,14 @@ over-on (suc n) h = rw sub-one
 -- ---- the task planned by what is coming
 
 module _ (kinds : List Kind) (later : List (List Kind)) (c : Coming) (e : comingIs c ≡ ahead kinds) where
-  pub plan-new : {zeros : ℕ} {b : Bool} → c ≡ Value zeros b → zeros < 16 → Planned (New zeros b) (plan kinds later)
-  unfolding plan comingIs taskIs
-  plan-new {zeros} q h = record { same = rw (← e, q, lt-ltb zeros 16 h); short = h }
+  pub plan-set : {zeros : ℕ} {b : Bool} → c ≡ Value zeros b → zeros < 16 → Planned (Set zeros b) (plan kinds later)
+  unfolding plan comingIs
+  plan-set {zeros} q h = record { same = rw (← e, q, lt-ltb zeros 16 h); short = h }
 
-  pub plan-zeros : {zeros : ℕ} {b : Bool} → c ≡ Value zeros b → 16 ≤ zeros → Planned (Zeros 15) (plan kinds later)
-  unfolding plan comingIs taskIs
-  plan-zeros {zeros} q h = record { same = rw (← e, q, le-ltb zeros 16 h); short = omega arith }
+  pub plan-leave : {zeros : ℕ} {b : Bool} → c ≡ Value zeros b → 16 ≤ zeros → Planned (Leave 15) (plan kinds later)
+  unfolding plan comingIs
+  plan-leave {zeros} q h = record { same = rw (← e, q, le-ltb zeros 16 h); short = omega arith }
 
   pub plan-ended : {n : ℕ} → c ≡ Quiet → n ≡ quiet later → n ≤ 1024 → Planned (Ended n) (plan kinds later)
-  unfolding plan comingIs taskIs
+  unfolding plan comingIs
   plan-ended q f h = record { same = rw (← e, q, f); short = h }

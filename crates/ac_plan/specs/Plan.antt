@@ -6,18 +6,16 @@ use mathlib.Core.Option.{Option, none, some}
 use Prim.Native.Nat.{ℕ, _≤_, _<_}
 use lib.IntN.{ℤ}
 use lib.ListN.{drop}
-use Rattle.planes.specs.Task.{walk, ended}
-use Rattle.planes.specs.Task as defined
+use Rattle.planes.specs.Task.{Task}
 use Rattle.planes.specs.AcRead.{cut}
 use Rattle.planes.specs.AcWrite.{Kind, keep, still, fresh, kindOf}
+use Rattle.ac_tasks.specs.Code.{taskOf}
+use Rattle.ac_tasks.specs.declared.Job.{Job}
+use Rattle.ac_tasks.specs.declared.Job.the-variants.{Leave, Set, Ended}
 use Rattle.ac_plan.specs.declared.Change.{Change}
 use Rattle.ac_plan.specs.declared.Change.the-variants.{Kept, Still, Fresh}
 use Rattle.ac_plan.specs.declared.Coming.{Coming}
 use Rattle.ac_plan.specs.declared.Coming.the-variants.{Value, Quiet}
-use Rattle.ac_plan.specs.declared.Task.{Task}
-use Rattle.ac_plan.specs.declared.Task.the-variants.{Zeros, New, Ended}
-use Rattle.ac_plan.specs.declared.Job.{Job}
-use Rattle.ac_plan.specs.declared.Job.the-variants.{Need, Open}
 
 -- ---- values as kinds
 
@@ -40,23 +38,13 @@ unfoldable pub comingIs : Coming → Option (ℕ × Bool)
 comingIs (Value zeros sign) = some (zeros, sign)
 comingIs Quiet = none
 
-unfoldable pub taskIs : Task → defined.Task
-taskIs (Zeros n) = walk n none
-taskIs (New n b) = walk n (some b)
-taskIs (Ended n) = ended n
-
--- no task is open where a code is needed
-unfoldable pub jobIs : Job → Option defined.Task
-jobIs Need = none
-jobIs (Open t) = some (taskIs t)
-
--- a task that a code can tell
-abbrev pub Short : Task → Type 0
-Short (Zeros n) = n < 16
-Short (New n b) = n < 16
+-- a job that a code can tell
+abbrev pub Short : Job → Type 0
+Short (Leave n) = n < 16
+Short (Set n sign) = n < 16
 Short (Ended n) = n ≤ 1024
 
--- the code's task is that of the definition
-pub record Planned (t : Task) (task : defined.Task) : Type 0 where
-  pub same : taskIs t ≡ task
-  pub short : Short t
+-- the code's job is the task of the definition
+pub record Planned (job : Job) (task : Task) : Type 0 where
+  pub same : taskOf job ≡ task
+  pub short : Short job

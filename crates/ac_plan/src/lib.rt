@@ -4,7 +4,10 @@ ghost use Prim.Native.Nat.{_*_, _≤_};
 ghost use lib.ListN.{length};
 ghost use Rattle.planes.specs.Task as defined;
 ghost use Rattle.planes.specs.AcWrite as written;
-ghost use Rattle.ac_plan.specs.Plan.{kindsFrom, kindBlocks, kindIs, comingIs, taskIs, jobIs, Planned};
+ghost use Rattle.ac_tasks.specs.Code.{taskOf, openOf};
+ghost use Rattle.ac_plan.specs.Plan.{kindsFrom, kindBlocks, kindIs, comingIs, Planned};
+use ac_tasks::Job;
+use ac_tasks::Open;
 
 // A value against its half: its correction bit, a zero that stays, or a new value with its sign.
 pub enum Change {
@@ -17,19 +20,6 @@ pub enum Change {
 pub enum Coming {
     Value(usize, bool),
     Quiet,
-}
-
-// Pass zeros through one more zero, or to a new value; or this block and n more end here.
-pub enum Task {
-    Zeros(usize),
-    New(usize, bool),
-    Ended(usize),
-}
-
-// Where no task is open a code is needed.
-pub enum Job {
-    Need,
-    Open(Task),
 }
 
 // "against their halves (.. AC toward zero)"
@@ -86,75 +76,75 @@ fn quiet_of(later: &[i32], blocks: usize) -> usize
 }
 
 // "the longest end run", "directly after the last new value"; "the 16-zero code only before a later new value"
-pub fn plan(block: &[i32], i: usize, later: &[i32], blocks: usize) -> Task
+pub fn plan(block: &[i32], i: usize, later: &[i32], blocks: usize) -> Job
     requires { ⌜ (length (now later) ≡ 63 * blocks) × (blocks ≤ 1024) ⌝ }
     ensures { λ r. ⌜ Planned r (written.plan (kindsFrom (now (block .entry)) i) (kindBlocks blocks (now (later .entry)))) ⌝ }
 {
     match ahead_of(block, i) {
-        Coming::Quiet => Task::Ended(quiet_of(later, blocks)),
+        Coming::Quiet => Job::Ended(quiet_of(later, blocks)),
         Coming::Value(zeros, positive) => {
             if zeros < 16 {
-                return Task::New(zeros, positive);
+                return Job::Set(zeros, positive);
             }
-            Task::Zeros(15)
+            Job::Leave(15)
         }
     }
 }
 
 // What is left of a task behind a zero.
-fn pass(task: Task) -> Job
-    ensures { λ r. ⌜ jobIs r ≡ defined.pass (taskIs task) ⌝ }
+fn pass(job: Job) -> Open
+    ensures { λ r. ⌜ openOf r ≡ defined.pass (taskOf job) ⌝ }
 {
-    match task {
-        Task::Zeros(n) => {
+    match job {
+        Job::Leave(n) => {
             if n == 0 {
-                return Job::Need;
+                return Open::Nothing;
             }
-            Job::Open(Task::Zeros(n - 1))
+            Open::Doing(Job::Leave(n - 1))
         }
-        Task::New(n, positive) => {
+        Job::Set(n, positive) => {
             if n == 0 {
-                return Job::Need;
+                return Open::Nothing;
             }
-            Job::Open(Task::New(n - 1, positive))
+            Open::Doing(Job::Set(n - 1, positive))
         }
-        Task::Ended(n) => Job::Open(Task::Ended(n)),
+        Job::Ended(n) => Open::Doing(Job::Ended(n)),
     }
 }
 
 // What is left of it behind a value.
-pub fn after(task: Task, change: Change) -> Job
-    ensures { λ r. ⌜ jobIs r ≡ written.after (taskIs task) (kindIs change) ⌝ }
+pub fn after(job: Job, change: Change) -> Open
+    ensures { λ r. ⌜ openOf r ≡ written.after (taskOf job) (kindIs change) ⌝ }
 {
     match change {
-        Change::Kept(_) => Job::Open(task),
-        Change::Still => pass(task),
-        Change::Fresh(_) => pass(task),
+        Change::Kept(_) => Open::Doing(job),
+        Change::Still => pass(job),
+        Change::Fresh(_) => pass(job),
     }
 }
 
 // What is left of it behind a block.
-fn over_task(task: Task) -> Job
-    ensures { λ r. ⌜ jobIs r ≡ defined.over (jobIs (Job.Open task)) ⌝ }
+fn over_job(job: Job) -> Open
+    ensures { λ r. ⌜ openOf r ≡ defined.over (openOf (Open.Doing job)) ⌝ }
 {
-    match task {
-        Task::Ended(n) => {
+    match job {
+        Job::Ended(n) => {
             if n == 0 {
-                return Job::Need;
+                return Open::Nothing;
             }
-            Job::Open(Task::Ended(n - 1))
+            Open::Doing(Job::Ended(n - 1))
         }
-        Task::Zeros(_) => Job::Need,
-        Task::New(_, _) => Job::Need,
+        Job::Leave(_) => Open::Nothing,
+        Job::Set(_, _) => Open::Nothing,
     }
 }
 
 // The job that the next block begins with.
-pub fn over(job: Job) -> Job
-    ensures { λ r. ⌜ jobIs r ≡ defined.over (jobIs job) ⌝ }
+pub fn over(task: Open) -> Open
+    ensures { λ r. ⌜ openOf r ≡ defined.over (openOf task) ⌝ }
 {
-    match job {
-        Job::Need => Job::Need,
-        Job::Open(task) => over_task(task),
+    match task {
+        Open::Nothing => Open::Nothing,
+        Open::Doing(job) => over_job(job),
     }
 }

@@ -13,8 +13,9 @@ use Rattle.bits.proofs.Putting.{fresh-sound}
 use Rattle.codes.specs.Table.{Table, goodTable}
 use Rattle.planes.specs.Task.{Task}
 use Rattle.planes.specs.AcWrite.{Kind, Token, kindOf, writeBlock, writeBlocks, tokens}
-use Rattle.ac_plan.specs.Plan.{kindsFrom, kindBlocks, jobIs}
-use Rattle.ac_plan.specs.declared.Job.the-variants.{Need}
+use Rattle.ac_tasks.specs.Code.{openOf}
+use Rattle.ac_plan.specs.Plan.{kindsFrom, kindBlocks}
+use Rattle.ac_tasks.specs.declared.Open.the-variants.{Nothing}
 use Rattle.ac_plan.proofs.Looking.{blocks-cons, blocks-end, blocks-start}
 use Rattle.ac_writer.specs.Telling.{newPen, Told, Moves}
 use Rattle.ac_writer.specs.declared.State.{State}
@@ -44,7 +45,7 @@ module _ (values : List ℤ) (n : ℕ) where
 -- behind n blocks, what is still to tell comes to what the plane comes to
 pub record Running (T : Table) (before memory : List ℕ) (q : State) (blocks : ℕ) (values : List ℤ) (n : ℕ) : Type 0 where
   pub within : n ≤ blocks
-  pub telling : Telling T before memory newPen (q .pen) (writeBlocks (jobIs (q .job)) (kindBlocks (blocks - n) (drop (63 * n) values))) (tokens blocks values)
+  pub telling : Telling T before memory newPen (q .pen) (writeBlocks (openOf (q .task)) (kindBlocks (blocks - n) (drop (63 * n) values))) (tokens blocks values)
 
 all-tokens : (blocks : ℕ) (values : List ℤ) → writeBlocks none (kindBlocks blocks values) ≡ tokens blocks values
 unfolding tokens kindBlocks
@@ -60,8 +61,7 @@ unfolding writeBlocks
 plane-none o all e = rw e
 
 module _ {T : Table} {before : List ℕ} (blocks : ℕ) (values : List ℤ) where
-  pub run-start : Running T before before (record { pen = newPen; job = Need }) blocks values 0
-  unfolding jobIs
+  pub run-start : Running T before before (record { pen = newPen; task = Nothing }) blocks values 0
   run-start = record {
     within = omega arith;
     telling = rw (blocks-start blocks values, all-tokens blocks values) (telling-start fresh-sound);
@@ -72,14 +72,14 @@ module _ {T : Table} {before : List ℕ} (blocks : ℕ) (values : List ℤ) wher
     run-near g h = omega (arith, w .telling .going .near, plane-length T g blocks values)
 
     pub run-turn : {after : List ℕ} {r : State} (part rest : List ℤ) → n < blocks → part ≡ take 63 (drop (63 * n) values) → rest ≡ drop (63 * (n + 1)) values
-        → Moves T memory after q r (writeBlock (jobIs (q .job)) (kindsFrom part 0) (kindBlocks (blocks - (n + 1)) rest)) → Running T before after r blocks values (n + 1)
+        → Moves T memory after q r (writeBlock (openOf (q .task)) (kindsFrom part 0) (kindBlocks (blocks - (n + 1)) rest)) → Running T before after r blocks values (n + 1)
     run-turn {after} {r} part rest h e f m =
         let later = kindBlocks (blocks - (n + 1)) rest in
         let k : kindBlocks (blocks - n) (drop (63 * n) values) ≡ kindsFrom part 0 ∷ later = rw f (blocks-cons blocks values n h e) in
         record {
           within = omega arith;
-          telling = rw (m .job, ← f) (telling-turn (writeBlock (jobIs (q .job)) (kindsFrom part 0) later .0) _ (rw (plane-cons (jobIs (q .job)) _ (kindsFrom part 0) later k) at (w .telling)) (m .told));
+          telling = rw (m .task, ← f) (telling-turn (writeBlock (openOf (q .task)) (kindsFrom part 0) later .0) _ (rw (plane-cons (openOf (q .task)) _ (kindsFrom part 0) later k) at (w .telling)) (m .told));
         }
 
     pub run-end : blocks ≤ n → Told T before memory newPen (q .pen) (tokens blocks values)
-    run-end h = telling-end (rw (plane-none (jobIs (q .job)) _ (blocks-end blocks values n h)) at (w .telling))
+    run-end h = telling-end (rw (plane-none (openOf (q .task)) _ (blocks-end blocks values n h)) at (w .telling))

@@ -10,7 +10,7 @@ use Rattle.bits.proofs.Putting.{fresh}
 use Rattle.codes.specs.Table.{Table}
 use Rattle.planes.specs.Task.{Task}
 use Rattle.planes.specs.AcWrite.{Kind, Token, choose, tell, mark, after, missing, spelled}
-use Rattle.ac_plan.specs.Plan.{taskIs, jobIs}
+use Rattle.ac_tasks.specs.Code.{taskOf, openOf}
 use Rattle.ac_writer.specs.declared.Pen.{Pen}
 use Rattle.ac_writer.specs.declared.State.{State}
 use Rattle.ac_writer.specs.declared.Begun.{Begun}
@@ -36,8 +36,8 @@ pub record Told (T : Table) (before after : List ℕ) (p r : Pen) (tokens : List
 
 -- the task at a position was chosen, and told if none was open
 pub record Begins (T : Table) (before after : List ℕ) (s : State) (r : Begun) (kinds : List Kind) (later : List (List Kind)) : Type 0 where
-  pub task : taskIs (r .task) ≡ choose (jobIs (s .job)) kinds later
-  pub told : Told T before after (s .pen) (r .pen) (tell (jobIs (s .job)) (choose (jobIs (s .job)) kinds later))
+  pub job : taskOf (r .job) ≡ choose (openOf (s .task)) kinds later
+  pub told : Told T before after (s .pen) (r .pen) (tell (openOf (s .task)) (choose (openOf (s .task)) kinds later))
 
 -- a position: its tokens, and the task behind it; `kinds` begin with its own, x
 unfoldable pub stepOf : Option Task → Kind → List Kind → List (List Kind) → List Token × Option Task
@@ -46,4 +46,4 @@ stepOf o x kinds later = (tell o (choose o kinds later) ++ mark x, after (choose
 -- tokens were told, and this task is open then
 pub record Moves (T : Table) (before after : List ℕ) (s r : State) (move : List Token × Option Task) : Type 0 where
   pub told : Told T before after (s .pen) (r .pen) (move .0)
-  pub job : jobIs (r .job) ≡ move .1
+  pub task : openOf (r .task) ≡ move .1

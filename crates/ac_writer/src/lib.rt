@@ -11,11 +11,12 @@ ghost use Rattle.bits.specs.Code.{Sound};
 ghost use Rattle.codes.specs.Table.{Table, table, goodTable};
 ghost use Rattle.planes.specs.Task.{ended};
 ghost use Rattle.planes.specs.AcWrite as written;
-ghost use Rattle.ac_plan.specs.Plan.{kindsFrom, kindBlocks, kindIs, taskIs, jobIs, Short};
+ghost use Rattle.ac_tasks.specs.Code.{taskOf, openOf};
+ghost use Rattle.ac_plan.specs.Plan.{kindsFrom, kindBlocks, kindIs, Short};
 ghost use Rattle.ac_writer.specs.Telling.{firstOf, newPen, Ready, Told, Begins, stepOf, Moves};
 use ac_plan::Change;
-use ac_plan::Job;
-use ac_plan::Task;
+use ac_tasks::Job;
+use ac_tasks::Open;
 use answers::Answer;
 use answers::Outcome;
 use bits::Putter;
@@ -30,12 +31,12 @@ pub struct Pen {
 
 pub struct State {
     pub pen: Pen,
-    pub job: Job,
+    pub task: Open,
 }
 
 pub struct Begun {
     pub pen: Pen,
-    pub task: Task,
+    pub job: Job,
 }
 
 // "19 .. the code's value": the first one stays.
@@ -113,18 +114,18 @@ fn tell_run(destination: &mut [u8], counts: &[u8], codes: &[u8], pen: Pen, n: us
 }
 
 // The code that tells a task, and the bits behind it.
-fn emit(destination: &mut [u8], counts: &[u8], codes: &[u8], pen: Pen, task: Task) -> Pen
+fn emit(destination: &mut [u8], counts: &[u8], codes: &[u8], pen: Pen, job: Job) -> Pen
     requires { ⌜ Ready pen ⌝ }
-    requires { ⌜ (goodTable (table (now counts) (now codes)) ≡ true) × Short task ⌝ }
-    ensures { λ r. ⌜ Told (table (now (counts .entry)) (now (codes .entry))) (now (destination .entry)) (now (destination .exit)) pen r (written.emit (taskIs task)) ⌝ }
+    requires { ⌜ (goodTable (table (now counts) (now codes)) ≡ true) × Short job ⌝ }
+    ensures { λ r. ⌜ Told (table (now (counts .entry)) (now (codes .entry))) (now (destination .entry)) (now (destination .exit)) pen r (written.emit (taskOf job)) ⌝ }
 {
-    match task {
-        Task::Zeros(n) => tell_code(destination, counts, codes, pen, (16 * n) as u8),
-        Task::New(n, positive) => {
+    match job {
+        Job::Leave(n) => tell_code(destination, counts, codes, pen, (16 * n) as u8),
+        Job::Set(n, positive) => {
             let q = tell_code(destination, counts, codes, pen, (16 * n + 1) as u8);
             tell_bit(destination, q, positive)
         }
-        Task::Ended(n) => tell_run(destination, counts, codes, pen, n),
+        Job::Ended(n) => tell_run(destination, counts, codes, pen, n),
     }
 }
 
@@ -157,13 +158,13 @@ fn begin(
     ensures { λ r. ⌜ Begins (table (now (counts .entry)) (now (codes .entry))) (now (destination .entry)) (now (destination .exit)) state r (kindsFrom (now (block .entry)) i) (kindBlocks blocks (now (later .entry))) ⌝ }
 {
     let pen = state.pen;
-    let job = state.job;
-    match job {
-        Job::Open(task) => Begun { pen, task },
-        Job::Need => {
-            let task = ac_plan::plan(block, i, later, blocks);
-            let told = emit(destination, counts, codes, pen, task);
-            Begun { pen: told, task }
+    let task = state.task;
+    match task {
+        Open::Doing(job) => Begun { pen, job },
+        Open::Nothing => {
+            let job = ac_plan::plan(block, i, later, blocks);
+            let told = emit(destination, counts, codes, pen, job);
+            Begun { pen: told, job }
         }
     }
 }
@@ -182,15 +183,15 @@ fn step(
     requires { ⌜ Ready (state .pen) ⌝ }
     requires { ⌜ (goodTable (table (now counts) (now codes)) ≡ true) × (i < length (now block)) ⌝ }
     requires { ⌜ (length (now later) ≡ 63 * blocks) × (blocks ≤ 1024) ⌝ }
-    ensures { λ r. ⌜ Moves (table (now (counts .entry)) (now (codes .entry))) (now (destination .entry)) (now (destination .exit)) state r (stepOf (jobIs (state .job)) (written.kindOf (getD (now (block .entry)) i (pos 0))) (kindsFrom (now (block .entry)) i) (kindBlocks blocks (now (later .entry)))) ⌝ }
+    ensures { λ r. ⌜ Moves (table (now (counts .entry)) (now (codes .entry))) (now (destination .entry)) (now (destination .exit)) state r (stepOf (openOf (state .task)) (written.kindOf (getD (now (block .entry)) i (pos 0))) (kindsFrom (now (block .entry)) i) (kindBlocks blocks (now (later .entry)))) ⌝ }
 {
     let b = begin(destination, counts, codes, state, block, i, later, blocks);
     let told = b.pen;
-    let task = b.task;
+    let job = b.job;
     let change = ac_plan::kind_of(block[i]);
     let pen = mark(destination, told, change);
-    let job = ac_plan::after(task, change);
-    State { pen, job }
+    let task = ac_plan::after(job, change);
+    State { pen, task }
 }
 
 // A block: its positions in order.
@@ -206,7 +207,7 @@ fn put_block(
     requires { ⌜ (Sound (state .pen .putter)) × (state .pen .putter .at < 2 ^ 59) ⌝ }
     requires { ⌜ (goodTable (table (now counts) (now codes)) ≡ true) × (length (now block) ≤ 63) ⌝ }
     requires { ⌜ (length (now later) ≡ 63 * blocks) × (blocks ≤ 1024) ⌝ }
-    ensures { λ r. ⌜ Moves (table (now (counts .entry)) (now (codes .entry))) (now (destination .entry)) (now (destination .exit)) state r (written.writeBlock (jobIs (state .job)) (kindsFrom (now (block .entry)) 0) (kindBlocks blocks (now (later .entry)))) ⌝ }
+    ensures { λ r. ⌜ Moves (table (now (counts .entry)) (now (codes .entry))) (now (destination .entry)) (now (destination .exit)) state r (written.writeBlock (openOf (state .task)) (kindsFrom (now (block .entry)) 0) (kindBlocks blocks (now (later .entry)))) ⌝ }
 {
     let mut s = state;
     let mut i = 0;
@@ -215,9 +216,9 @@ fn put_block(
         i += 1;
     }
     let pen = s.pen;
-    let last = s.job;
-    let job = ac_plan::over(last);
-    State { pen, job }
+    let last = s.task;
+    let task = ac_plan::over(last);
+    State { pen, task }
 }
 
 // The tokens of all blocks.
@@ -243,7 +244,7 @@ fn put_blocks(
     };
     let mut s = State {
         pen,
-        job: Job::Need,
+        task: Open::Nothing,
     };
     let mut n = 0;
     while n < blocks {

@@ -1,3 +1,4 @@
 pub mod Taking
 pub mod Putting
 pub mod Trip
+pub mod Held

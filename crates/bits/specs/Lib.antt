@@ -4,3 +4,4 @@ pub mod Reader
 pub mod Pack
 pub mod Code
 pub mod Gives
+pub mod Held

@@ -1,4 +1,6 @@
 // Bits out of coded bytes, and bytes out of bits, highest bit first, with 00 after FF (01, "Refinement planes").
+pub mod reader;
+
 ghost use mathlib.Core.Path.{_≡_};
 ghost use mathlib.Core.List.{[], _∷_};
 ghost use Prim.Native.Nat.{_+_, _-_, _^_, _≤_, _<_};

@@ -28,7 +28,7 @@ use Rattle.codes.specs.Write.{placeOf, codeAt, word}
 use Rattle.codes.specs.Code.{Assigned}
 use Rattle.codes.proofs.Laws.{good, total-on, total-end}
 
-bin-odd : (n : ℕ) → bin (odd n) ≡ n % 2
+pub bin-odd : (n : ℕ) → bin (odd n) ≡ n % 2
 bin-odd n = go (eqb (n % 2) 1) refl
   where
     go : (b : Bool) → odd n ≡ b → bin b ≡ n % 2
@@ -113,7 +113,7 @@ located (n ∷ ns) g size k h = go (ltb k n) refl (λ l. located ns (2 * g + n) 
 pub placed : (v : ℕ) (vs : List ℕ) (k : ℕ) → placeOf v vs ≡ At k → (k < length vs) × (getD vs k 0 ≡ v)
 unfolding placeOf
 placed v vs k e =
-    let r = first-at (length vs) (λ i. not (eqb (getD vs i 0) v)) k e in
+    let r = first-at (length vs) (λ i. not (eqb (getD vs i 0) v)) e in
     (r .0, eqb-true (getD vs k 0) v (not-false (eqb (getD vs k 0) v) (r .1)))
 
 -- a code that was put is read back as its value

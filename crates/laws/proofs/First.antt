@@ -51,17 +51,18 @@ unfolding firstFail orHere
 all-pass zero test h = refl
 all-pass (suc n) test h = rw (all-pass n test (λ k l. h k (omega arith)), h n (omega arith))
 
-at-step : (o : Found) (b : Bool) (n i : ℕ) → orHere o b n ≡ At i → (o ≡ At i) ⊎ ((i ≡ n) × (b ≡ false))
+at-step : (o : Found) (b : Bool) (n : ℕ) {i : ℕ} → orHere o b n ≡ At i → (o ≡ At i) ⊎ ((o ≡ Nothing) × (b ≡ false) × (n ≡ i))
 unfolding orHere
-at-step (At j) b n i e = inl e
-at-step Nothing false n i e = inr (cc, refl)
-at-step Nothing true n i e = let z : _≡_ {A = ℕ} 0 1 = cc in let y : ⊥ = omega arith in absurd y
+at-step (At a) b n e = inl e
+at-step Nothing true n e = let z : _≡_ {A = ℕ} 0 1 = cc in let y : ⊥ = omega arith in absurd y
+at-step Nothing false n e = inr (refl, refl, cc)
 
--- what `At i` says, for callers
-pub first-at : (n : ℕ) (test : ℕ → Bool) (i : ℕ) → firstFail n test ≡ At i → (i < n) × (test i ≡ false)
+-- what `At` says, for callers
+pub first-at : (n : ℕ) (test : ℕ → Bool) {i : ℕ} → firstFail n test ≡ At i → (i < n) × (test i ≡ false) × ((k : ℕ) → k < i → test k ≡ true)
 unfolding firstFail
-first-at zero test i e = let z : _≡_ {A = ℕ} 0 1 = cc in let y : ⊥ = omega arith in absurd y
-first-at (suc n) test i e =
-    ⊎-elim (λ (q : firstFail n test ≡ At i). (let r = first-at n test i q .0 in omega arith, first-at n test i q .1))
-    (λ (q : (i ≡ n) × (test n ≡ false)). (omega (arith, q .0), rw (q .0) (q .1)))
-    (at-step (firstFail n test) (test n) n i e)
+first-at zero test e = let z : _≡_ {A = ℕ} 0 1 = cc in let y : ⊥ = omega arith in absurd y
+first-at (suc n) test {i} e =
+    ⊎-elim
+    (λ (f : firstFail n test ≡ At i). let r = first-at n test f in (omega arith, r .1, r .2))
+    (λ (f : (firstFail n test ≡ Nothing) × (test n ≡ false) × (n ≡ i)). (omega arith, subst (λ (m : ℕ). test m ≡ false) (f .2) (f .1), λ k l. first-none n test (f .0) k (omega arith)))
+    (at-step (firstFail n test) (test n) n e)

@@ -65,11 +65,6 @@ unfolding every
 every-rest true bs e = e
 every-rest false bs e = let z : _≡_ {A = ℕ} 0 1 = cc in let y : ⊥ = omega arith in absurd y
 
--- the last test of a list is the list's
-pub last-test : (b : Bool) → b ≡ cond b true false
-last-test true = refl
-last-test false = refl
-
 -- ---- a test that antt computes at each number below n
 
 abbrev pub both : Bool → Bool → Bool

@@ -12,8 +12,7 @@ use lib.ListN.{length, getD, List·getD-eq-default}
 use lib.Pow.{pow-pos}
 use lib.Signed.{mag, leZ, ltZ}
 use Rattle.laws.proofs.Integers.{split}
-use Rattle.laws.proofs.Lists.{each, getD-tab}
-use Rattle.laws.specs.Index.{tab}
+use Rattle.laws.proofs.Lists.{each}
 use Rattle.laws.proofs.First.{first-none}
 use Rattle.laws.specs.declared.Found.the-variants.{Nothing}
 use Rattle.levels.specs.Level.{dcIn, inLevel, inside, firstOutside, isDc}
@@ -58,16 +57,9 @@ module _ (level : ℕ) (v : ℤ) where
         go (suc m) (pos n) p b = sym (lt-ltb n (suc m) (leb-false (suc m) n b))
         go (suc m) (negsuc n) p b = sym (leb·suc-suc (suc n) m)
 
--- ---- the tables of the source
-
-pub above-at : (level : ℕ) → level ≤ 4 → getD (pos 2048 ∷ pos 4096 ∷ pos 8192 ∷ pos 16384 ∷ pos 32768 ∷ []) level (pos 0) ≡ pos (2 ^ (11 + level))
-unfolding tab
-above-at level h = getD-tab 5 (λ k. pos (2 ^ (11 + k))) (pos 0) level (omega arith)
-
-pub lowest-at : (level : ℕ) → level ≤ 4
-    → getD (negsuc 2047 ∷ negsuc 4095 ∷ negsuc 8191 ∷ negsuc 16383 ∷ negsuc 32767 ∷ []) level (pos 0) ≡ negℤ (pos (2 ^ (11 + level)))
-unfolding tab
-lowest-at level h = getD-tab 5 (λ k. negℤ (pos (2 ^ (11 + k)))) (pos 0) level (omega arith)
+-- the last of five levels
+pub fourth : (level : ℕ) → level ≤ 4 → (level ≡ 0 → ⊥) → (level ≡ 1 → ⊥) → (level ≡ 2 → ⊥) → (level ≡ 3 → ⊥) → level ≡ 4
+fourth level h a b c d = omega arith
 
 -- ---- for callers
 

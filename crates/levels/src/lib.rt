@@ -12,16 +12,18 @@ pub enum Part {
     Whole,
 }
 
-const ABOVE: [i32; 5] = [2048, 4096, 8192, 16384, 32768];
-
-const LOWEST: [i32; 5] = [-2048, -4096, -8192, -16384, -32768];
-
-// The number just above a level's range.
+// The number just above a level's range. (A constant array would be built anew for each value.)
 fn above(level: usize) -> i32
     requires { ⌜ level ≤ 4 ⌝ }
     ensures { λ r. ⌜ r ≡ pos (2 ^ (11 + level)) ⌝ }
 {
-    ABOVE[level]
+    match level {
+        0 => 2048,
+        1 => 4096,
+        2 => 8192,
+        3 => 16384,
+        _ => 32768,
+    }
 }
 
 // The lowest DC value of a level.
@@ -29,7 +31,13 @@ fn lowest(level: usize) -> i32
     requires { ⌜ level ≤ 4 ⌝ }
     ensures { λ r. ⌜ r ≡ negℤ (pos (2 ^ (11 + level))) ⌝ }
 {
-    LOWEST[level]
+    match level {
+        0 => -2048,
+        1 => -4096,
+        2 => -8192,
+        3 => -16384,
+        _ => -32768,
+    }
 }
 
 // Whether a value lies in its range at a level.

@@ -4,3 +4,4 @@ pub mod Task
 pub mod AcRead
 pub mod AcWrite
 pub mod Code
+pub mod Levels

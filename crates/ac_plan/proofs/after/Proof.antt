@@ -1,5 +1,5 @@
 -- `ac_plan::after` meets its contract. Assumes nothing.
-use Rattle.ac_plan.specs.Plan.{kindIs, jobIs}
+use Rattle.ac_plan.specs.Plan.{kindIs}
 use borrow.Author.Needs.{needs}
 use Rattle.ac_plan.proofs.after.Statement.{statement}
 use Rattle.ac_plan.proofs.after.Tie as tie
@@ -20,7 +20,7 @@ pass-requires-2 : tie.Need-pass-requires-2
 pass-requires-2 c κs = search needs
 
 returns : tie.Need-returns
-unfolding kindIs jobIs
+unfolding kindIs
 returns c = rw (c .enum-told .given .1)
 
 returns-2 : tie.Need-returns-2

@@ -4,8 +4,8 @@ use borrow.Author.Needs.{needs}
 use Rattle.ac_writer.proofs.begin.Statement.{statement}
 use Rattle.ac_writer.proofs.begin.Tie as tie
 
-enum-known-job : tie.Need-enum-known-job
-enum-known-job c = search needs
+enum-known-task : tie.Need-enum-known-task
+enum-known-task c = search needs
 
 enum-told : tie.Need-enum-told
 enum-told c = search needs
@@ -17,7 +17,7 @@ emit-requires : tie.Need-emit-requires
 emit-requires c κs = (c .before .before .before .before .before .before .before .before .pre .0, (c .before .before .before .before .before .before .before .before .pre .1 .0, c .before .plan .ensures .short))
 
 returns : tie.Need-returns
-returns c = begins-open _ _ (c .before .job .given .1) (c .before .before .before .before .before .before .before .pre .0 .sound)
+returns c = begins-open _ _ (c .before .task .given .1) (c .before .before .before .before .before .before .before .pre .0 .sound)
 
 same-length : tie.Need-same-length
 same-length c = search needs
@@ -28,4 +28,4 @@ returns-2 c = begins-need _ _ (c .before .before .before .before .before .enum-t
 pub begin-spec : {M : Type 1} → statement M
 begin-spec =
     tie.close
-    (tie.spec enum-known-job enum-told plan-requires emit-requires returns same-length returns-2)
+    (tie.spec enum-known-task enum-told plan-requires emit-requires returns same-length returns-2)

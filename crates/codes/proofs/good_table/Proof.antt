@@ -3,7 +3,7 @@ use mathlib.Core.Path.{_≡_, sym, _∙_}
 use Rattle.laws.specs.Index.{every}
 use borrow.Author.Tests.{eq-eqb, ne-eqb, le-leb, lt-leb}
 use Rattle.codes.specs.Table.{goodTable}
-use Rattle.laws.proofs.Lists.{last-test}
+use Rattle.laws.proofs.Tests.{every-last}
 use borrow.Author.Needs.{needs}
 use Rattle.codes.proofs.good_table.Statement.{statement}
 use Rattle.codes.proofs.good_table.Tie as tie
@@ -46,7 +46,7 @@ unfolding goodTable every
 returns-6 c =
     let b = c .before .before .before .before .before in
     rw (eq-eqb _ _ (b .before .before .if1 .left), le-leb _ _ (b .before .if2 .left), le-leb _ _ (b .if3 .left), ← (c .before .before .before .before .total-of .ensures), eq-eqb _ _ (c .before .before .before .if4 .left), ← (c .before .before .kraft-of .ensures), le-leb _ _ (c .before .if5 .left))
-    (c .all-distinct .ensures ∙ last-test _)
+    (c .all-distinct .ensures ∙ sym (every-last _))
 
 pub good-table-spec : {M : Type 1} → statement M
 good-table-spec =

@@ -1,0 +1,128 @@
+/* bench: each call of libreader_c.a beside the plain C version of the same rules, on the same input in the same run.
+ * A line for each: units a second of both, the ratio of their times, and the ratio of our times at twice the size (2 is linear). */
+#include <stdio.h>
+#include <stdlib.h>
+#include <string.h>
+#include <time.h>
+#include "auhowipi.h"
+#include "plain.h"
+
+static uint32_t seed = 18477;
+static uint32_t rnd(uint32_t n) { seed = seed * 1664525u + 1013904223u; return (uint32_t)((uint64_t)seed * n >> 32); }
+static double now(void) { struct timespec t; clock_gettime(CLOCK_MONOTONIC, &t); return (double)t.tv_sec + (double)t.tv_nsec * 1e-9; }
+
+enum { BLOCKS = 1024, PIXELS = 65536, FILES = 4 << 20 };
+static uint8_t data[1 << 20], other[1 << 20], file[FILES], counts[16], codes[32];
+static uint8_t box1[FILES], box2[FILES];
+static int32_t full[64 * BLOCKS], old[64 * BLOCKS], out1[3 * PIXELS], out2[3 * PIXELS], base[3 * PIXELS], residual[3 * PIXELS];
+static uint16_t quantisers[64], merged1[3 * PIXELS], merged2[3 * PIXELS];
+static uint64_t place1, place2;
+static size_t coded, file_len;
+static int bad;
+
+typedef uint32_t (*run)(size_t size, uint64_t *place);
+
+/* the best of several times, each of enough calls to last */
+static double seconds(run f, size_t size, uint64_t *place)
+{
+    double best = 1e9;
+    for (int t = 0; t < 5; t++) {
+        int calls = 0;
+        double begin = now(), spent;
+        do {
+            f(size, place);
+            calls++;
+            spent = now() - begin;
+        } while (spent < 0.05);
+        if (spent / calls < best) best = spent / calls;
+    }
+    return best;
+}
+
+static void compare(const char *name, const char *unit, size_t units, size_t size, run ours, run plain, const void *a, const void *b, size_t bytes)
+{
+    uint32_t n1 = ours(size, &place1), n2 = plain(size, &place2);
+    int same = n1 == n2 && place1 == place2 && memcmp(a, b, bytes) == 0;
+    bad += !same;
+    double t1 = seconds(ours, size, &place1), t2 = seconds(plain, size, &place2), half = seconds(ours, size / 2, &place1);
+    printf("| %s | %.3g | %.3g | %s | %.2f | %.2f | %s |\n", name, units / t1, units / t2, unit, t1 / t2, t1 / half, same ? "yes" : "NO");
+}
+
+static uint32_t w_dc(size_t n, uint64_t *p) { return xt_write_dc_plane(4, n, full, n, data, sizeof data, p); }
+static uint32_t w_dc2(size_t n, uint64_t *p) { return plain_write_dc(4, n, full, n, other, sizeof other, p); }
+static uint32_t r_dc(size_t n, uint64_t *p) { return xt_read_dc_plane(4, n, data, (n + 7) / 8, old, n, out1, n, p); }
+static uint32_t r_dc2(size_t n, uint64_t *p) { return plain_read_dc(4, n, data, (n + 7) / 8, old, n, out2, n, p); }
+static uint32_t w_ac(size_t n, uint64_t *p) { return xt_write_ac_plane(4, n, counts, 16, codes, 32, full, 63 * n, data, sizeof data, p); }
+static uint32_t w_ac2(size_t n, uint64_t *p) { return plain_write_ac(4, n, counts, 16, codes, 32, full, 63 * n, other, sizeof other, p); }
+static size_t length_for(size_t n) { static size_t whole, half; if (!whole) { uint64_t p; w_ac(BLOCKS, &p); whole = p; w_ac(BLOCKS / 2, &p); half = p; w_ac(BLOCKS, &p); } return n == BLOCKS ? whole : half; }
+static uint8_t halfway[1 << 20];
+static const uint8_t *coded_for(size_t n) { return n == BLOCKS ? data : halfway; }
+static uint32_t r_ac(size_t n, uint64_t *p) { return xt_read_ac_plane(4, n, counts, 16, codes, 32, coded_for(n), length_for(n), old, 63 * n, out1, 63 * n, p); }
+static uint32_t r_ac2(size_t n, uint64_t *p) { return plain_read_ac(4, n, counts, 16, codes, 32, coded_for(n), length_for(n), old, 63 * n, out2, 63 * n, p); }
+static uint32_t it(size_t n, uint64_t *p) { return xt_inverse_transform(4, n, full, 64 * n, quantisers, 64, out1, 64 * n, p); }
+static uint32_t it2(size_t n, uint64_t *p) { return plain_inverse_transform(4, n, full, 64 * n, quantisers, 64, out2, 64 * n, p); }
+static uint32_t mg(size_t n, uint64_t *p) { return xt_merge(8, 4, 4, 3, n, 1, 0, 0, 1, 1, base, 3 * n, residual, 3 * n, quantisers, 0, (const int16_t *)quantisers, 0, merged1, 3 * n, p); }
+static uint32_t mg2(size_t n, uint64_t *p) { return plain_merge(8, 4, 4, 3, n, 1, 1, base, 3 * n, residual, 3 * n, merged2, 3 * n, p); }
+static uint32_t mg1(size_t n, uint64_t *p) { return xt_merge(8, 0, 0, 1, n, 0, 0, 0, 0, 0, base, n, residual, 0, quantisers, 0, (const int16_t *)quantisers, 0, merged1, n, p); }
+static uint32_t mg12(size_t n, uint64_t *p) { return plain_merge(8, 0, 0, 1, n, 0, 0, base, n, residual, 0, merged2, n, p); }
+
+static void packet(uint32_t number, uint32_t lbox, size_t len)
+{
+    uint8_t head[20] = {0xFF, 0xEB, (uint8_t)((len + 18) >> 8), (uint8_t)(len + 18), 0x4A, 0x50, 0, 1, (uint8_t)(number >> 24), (uint8_t)(number >> 16), (uint8_t)(number >> 8), (uint8_t)number,
+                        (uint8_t)(lbox >> 24), (uint8_t)(lbox >> 16), (uint8_t)(lbox >> 8), (uint8_t)lbox, 'F', 'I', 'N', 'E'};
+    memcpy(file + file_len, head, 20);
+    file_len += 20;
+    for (size_t i = 0; i < len; i++) file[file_len++] = (uint8_t)rnd(256);
+}
+
+/* `size` bytes of box in packets of `each`, in file order or backward */
+static size_t each, backward;
+static void picture(size_t size)
+{
+    size_t n = size / each;
+    file_len = 2;
+    file[0] = 0xFF;
+    file[1] = 0xD8;
+    for (size_t i = 0; i < n; i++) packet((uint32_t)(backward ? n - i : i + 1), (uint32_t)(n * each + 8), each);
+    file[file_len++] = 0xFF;
+    file[file_len++] = 0xDA;
+}
+static size_t made;
+static void made_for(size_t size) { if (made != size) { picture(size); made = size; } }
+static uint32_t bx(size_t n, uint64_t *p) { made_for(n); return xt_box_bytes(file, file_len, 0x46494E45, 1, box1, sizeof box1, p); }
+static uint32_t bx2(size_t n, uint64_t *p) { made_for(n); return plain_box_bytes(file, file_len, 0x46494E45, 1, box2, sizeof box2, p); }
+
+int main(void)
+{
+    counts[5] = 32;
+    for (int r = 0; r < 16; r++) { codes[2 * r] = (uint8_t)(16 * r); codes[2 * r + 1] = (uint8_t)(16 * r + 1); }
+    for (int i = 0; i < 64; i++) quantisers[i] = (uint16_t)(1 + rnd(40));
+    for (size_t i = 0; i < 64 * BLOCKS; i++) {
+        full[i] = rnd(10) < 7 ? 0 : (int32_t)rnd(9) - 4;
+        old[i] = full[i] / 2;
+    }
+    for (size_t i = 0; i < 3 * PIXELS; i++) { base[i] = (int32_t)rnd(4096); residual[i] = (int32_t)rnd(4096); }
+    printf("| call | ours, units/s | plain C, units/s | unit | our time / plain C | at twice the size | same answer |\n|---|---|---|---|---|---|---|\n");
+    compare("xt_write_dc_plane, 1,024 blocks", "values", BLOCKS, BLOCKS, w_dc, w_dc2, data, other, 129);
+    for (size_t i = 0; i < BLOCKS; i++) old[i] = full[i] >> 1;
+    w_dc(BLOCKS, &place1);
+    compare("xt_read_dc_plane, 1,024 blocks", "values", BLOCKS, BLOCKS, r_dc, r_dc2, out1, out2, 4 * BLOCKS);
+    for (size_t i = 0; i < 64 * BLOCKS; i++) old[i] = full[i] / 2;
+    compare("xt_write_ac_plane, 1,024 blocks", "values", 63 * BLOCKS, BLOCKS, w_ac, w_ac2, data, other, 1000);
+    length_for(BLOCKS);
+    { uint64_t p; xt_write_ac_plane(4, BLOCKS / 2, counts, 16, codes, 32, full, 63 * BLOCKS / 2, halfway, sizeof halfway, &p); w_ac(BLOCKS, &p); }
+    compare("xt_read_ac_plane, 1,024 blocks", "values", 63 * BLOCKS, BLOCKS, r_ac, r_ac2, out1, out2, 4 * 63 * BLOCKS);
+    compare("xt_inverse_transform, 1,024 blocks", "values", 64 * BLOCKS, BLOCKS, it, it2, out1, out2, 4 * 64 * BLOCKS);
+    compare("xt_merge, 3 components, both transforms", "pixels", PIXELS, PIXELS, mg, mg2, merged1, merged2, 6 * PIXELS);
+    compare("xt_merge, 1 component, straight curve", "pixels", PIXELS, PIXELS, mg1, mg12, merged1, merged2, 2 * PIXELS);
+    each = 60000;
+    compare("xt_box_bytes, packets of 60,000 bytes in order", "bytes", 3000000, 3000000, bx, bx2, box1, box2, 3000000);
+    each = 60000; backward = 1; made = 0;
+    compare("xt_box_bytes, the same backward", "bytes", 3000000, 3000000, bx, bx2, box1, box2, 3000000);
+    each = 20; backward = 0; made = 0;
+    compare("xt_box_bytes, packets of 20 bytes in order", "bytes", 1000000, 1000000, bx, bx2, box1, box2, 1000000);
+    backward = 1; made = 0;
+    compare("xt_box_bytes, the same backward", "bytes", 1000000, 1000000, bx, bx2, box1, box2, 1000000);
+    printf("%d differ\n", bad);
+    return bad != 0;
+}

@@ -1,0 +1,135 @@
+//! The readings of document 01 ("Readings from the whiteboard") through the Rust calls, and a round trip.
+use auhowipi::*;
+
+const LPTS: [u8; 4] = *b"LPTS";
+
+fn picture(packets: &[(u32, &[u8])]) -> Vec<u8> {
+    let mut file = vec![0xFF, 0xD8];
+    for (number, payload) in packets {
+        file.extend([0xFF, 0xEB]);
+        file.extend((18 + payload.len() as u16).to_be_bytes());
+        file.extend(b"JP\x00\x01");
+        file.extend(number.to_be_bytes());
+        file.extend(11u32.to_be_bytes());
+        file.extend(LPTS);
+        file.extend(*payload);
+    }
+    file.extend([0xFF, 0xDA]);
+    file
+}
+
+fn refused<T>(answer: Result<T, Error>) -> (u32, u64) {
+    let error = answer.err().expect("a refusal");
+    (error.number, error.place)
+}
+
+#[test]
+fn a_box_and_its_listing() {
+    let file = picture(&[(1, &[0xAA, 0xBB, 0xCC])]);
+    let mut bytes = [7u8; 5];
+    assert_eq!(box_bytes(&file, LPTS, 1, &mut bytes), Ok(3));
+    assert_eq!(bytes, [0xAA, 0xBB, 0xCC, 7, 7]);
+    assert_eq!(refused(box_bytes(&file, LPTS, 2, &mut bytes)), (4, 0));
+    assert_eq!(bytes, [0; 5]);
+    let mut text = [0u8; 100];
+    let n = list_packets(&file, &mut text).unwrap();
+    assert_eq!(&text[..n], b"instance number bytes type\n1 1 3 4C505453\nanswer 0 0\n");
+}
+
+#[test]
+fn two_packets_numbered_one() {
+    let mut bytes = [7u8; 8];
+    let twice = picture(&[(1, &[1]), (1, &[2, 3])]);
+    assert_eq!(refused(box_bytes(&twice, LPTS, 1, &mut bytes)), (6, 1));
+    let missing = picture(&[(1, &[1]), (3, &[2, 3])]);
+    assert_eq!(refused(box_bytes(&missing, LPTS, 1, &mut bytes)), (7, 2));
+    assert_eq!(bytes, [0; 8]);
+    assert_eq!(Error { number: 6, place: 1 }.to_string(), "two packets claim the same sequence number (6, place 1)");
+}
+
+const COUNTS: [u8; 16] = [0, 3, 0, 0, 0, 0, 0, 0, 0, 0, 0, 0, 0, 0, 0, 0];
+const CODES: [u8; 3] = [0x00, 0x01, 0xF0];
+const T: Table = Table { counts: &COUNTS, codes: &CODES };
+
+#[test]
+fn ac_planes() {
+    let zero = [0i32; 63];
+    let mut three = zero;
+    three[0] = 3;
+    let mut out = [7i32; 63];
+    assert_eq!(read_ac_plane(1, 1, T, &[0x67], &zero, &mut out), Ok(63));
+    assert_eq!(out[..2], [1, 0]);
+    assert_eq!(read_ac_plane(1, 1, T, &[0x3F], &three, &mut out), Ok(63));
+    assert_eq!(out[0], 7);
+    assert_eq!(read_ac_plane(1, 1, T, &[0x43], &three, &mut out), Ok(63));
+    assert_eq!(out[..3], [6, -1, 0]);
+    assert_eq!(refused(read_ac_plane(1, 1, T, &[0x43], &zero, &mut out)), (18, 1));
+    assert_eq!(out, [0; 63]);
+    assert_eq!(refused(read_ac_plane(1, 1, T, &[], &zero, &mut out)), (12, 0));
+}
+
+#[test]
+fn dc_planes() {
+    let mut out = [0i32; 3];
+    assert_eq!(read_dc_plane(1, 3, &[0xBF], &[5, -1, 0], &mut out), Ok(3));
+    assert_eq!(out, [11, -2, 1]);
+    let mut bytes = [0u8; 2];
+    assert_eq!(write_dc_plane(1, 8, &[1; 8], &mut bytes), Ok(2));
+    assert_eq!(bytes, [0xFF, 0x00]);
+}
+
+#[test]
+fn samples() {
+    for (s, sample) in [(16, 130), (3, 128), (4, 129), (-4, 127)] {
+        let mut values = [0i32; 64];
+        values[0] = s;
+        let mut out = [0i32; 64];
+        assert_eq!(inverse_transform(0, 1, &values, &[1; 64], &mut out), Ok(64));
+        assert_eq!(out, [sample; 64]);
+    }
+}
+
+fn plain(rb: u32) -> Setting<'static> {
+    Setting { rb, rh: 0, rr: 0, components: 1, base_transform: false, curve: Curve::Straight, matrix: None, residual_transform: false }
+}
+
+#[test]
+fn merged() {
+    let mut out = [0u16; 1];
+    assert_eq!(merge(plain(4), 1, &[128], None, &mut out), Ok(1));
+    assert_eq!(out, [2056]);
+    // step 4 scales the residual by 2^(Rb-Rr): at Rr 4 it is 1
+    let with = Setting { rr: 4, ..plain(4) };
+    for (base, residual, result) in [(128, 2050, 2058), (255, 2100, 4095), (0, 2000, 0)] {
+        assert_eq!(merge(with, 1, &[base], Some(&[residual]), &mut out), Ok(1));
+        assert_eq!(out, [result]);
+    }
+    let srgb = Setting { curve: Curve::Srgb, ..plain(8) };
+    let mut four = [0u16; 4];
+    assert_eq!(merge(srgb, 4, &[0, 1, 10, 255], None, &mut four), Ok(4));
+    assert_eq!(four, [0, 20, 199, 65535]);
+    assert_eq!(refused(merge(Setting { base_transform: true, ..plain(4) }, 1, &[1], None, &mut out)), (20, 0));
+}
+
+/// 32 codes of six bits: every code that a plane can need.
+fn every_code() -> ([u8; 16], Vec<u8>) {
+    let mut counts = [0u8; 16];
+    counts[5] = 32;
+    (counts, (0..16).flat_map(|r| [16 * r, 16 * r + 1]).collect())
+}
+
+#[test]
+fn four_planes_there_and_back() {
+    let (counts, codes) = every_code();
+    let table = Table { counts: &counts, codes: &codes };
+    let blocks = 9;
+    let full: Vec<i32> = (0..63 * blocks as i32).map(|i| if i % 5 == 0 { (i * 7919) % 32767 - 16000 } else { i % 3 - 1 }).collect();
+    let level = |j: u32| -> Vec<i32> { full.iter().map(|v| v / (1 << (4 - j))).collect() };
+    for plane in 1..=4 {
+        let mut bytes = vec![0u8; 100_000];
+        let n = write_ac_plane(plane, blocks, table, &level(plane), &mut bytes).unwrap();
+        let mut values = vec![0i32; full.len()];
+        assert_eq!(read_ac_plane(plane, blocks, table, &bytes[..n], &level(plane - 1), &mut values), Ok(full.len()));
+        assert_eq!(values, level(plane));
+    }
+}

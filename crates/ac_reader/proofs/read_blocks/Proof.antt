@@ -1,0 +1,127 @@
+-- `ac_reader::read_blocks` meets its contract: what is left to read, behind the values read so far, is the whole. Assumes nothing.
+use mathlib.Core.Path.{_≡_, sym, ap, _∙_}
+use Prim.Native.Nat.{_+_, _-_, _≤_}
+use lib.ListN.{length, take, drop, length-take, length-drop}
+use borrow.Rule.Slice.PartMut.{same-len-mid, mid-len}
+use Rattle.codes.specs.Table.{table}
+use Rattle.ac_tasks.specs.Code.{blockOf}
+use Rattle.ac_reader.proofs.Plane.{Behind, behind-none, behind-all, behind-stopped, behind-one, small-part}
+use native.Mathlib.Omega.{arith}
+use borrow.Author.Needs.{needs}
+use Rattle.ac_reader.proofs.read_blocks.Statement.{statement}
+use Rattle.ac_reader.proofs.read_blocks.Tie as tie
+
+abbrev Inv-loop : tie.InvT-loop
+Inv-loop blocks counts codes «data» values destination₀ cursor₀ task₀ block₀ at₀ destination cursor task block at =
+    Behind «data» (table counts codes) blocks values destination₀ destination task cursor block at
+
+abbrev μ-loop : tie.MeasureT-loop
+μ-loop blocks counts codes «data» values destination₀ cursor₀ task₀ block₀ at₀ destination cursor task block at =
+    blocks - block
+
+loop-holds : tie.Need-loop-holds Inv-loop μ-loop
+loop-holds c = behind-none
+
+-- the block lies within the values, and within the destination
+within : (c : tie.In-loop Inv-loop μ-loop) → c .before .loop .at + 63 ≤ length (c .before .before .before .before .before .args .values .now)
+within c = omega (arith, c .before .loop .inv .place, c .before .before .before .before .before .pre .1 .1 .0)
+
+room : (c : tie.In-loop Inv-loop μ-loop) → c .before .loop .at + 63 ≤ length (c .before .loop .destination)
+room c = omega (arith, c .before .loop .inv .place, c .before .loop .inv .long, c .before .before .before .before .before .pre .1 .1 .1)
+
+add-end : tie.Need-add-end Inv-loop μ-loop
+add-end c = let h = within c in search needs
+
+sub-read-block : tie.Need-sub-read-block Inv-loop μ-loop
+sub-read-block c = search needs
+
+mul-read-block : tie.Need-mul-read-block Inv-loop μ-loop
+mul-read-block c = let h = within c in search needs
+
+sub-read-block-2 : tie.Need-sub-read-block-2 Inv-loop μ-loop
+sub-read-block-2 c = search needs
+
+part-read-block-start : tie.Need-part-read-block-start Inv-loop μ-loop
+part-read-block-start c = search needs
+
+part-read-block-end : tie.Need-part-read-block-end Inv-loop μ-loop
+part-read-block-end c = let h = within c in search needs
+
+mul-read-block-2 : tie.Need-mul-read-block-2 Inv-loop μ-loop
+mul-read-block-2 c = let h = within (c .before) in search needs
+
+sub-read-block-3 : tie.Need-sub-read-block-3 Inv-loop μ-loop
+sub-read-block-3 c = search needs
+
+part-read-block-start-2 : tie.Need-part-read-block-start-2 Inv-loop μ-loop
+part-read-block-start-2 c = search needs
+
+part-read-block-end-2 : tie.Need-part-read-block-end-2 Inv-loop μ-loop
+part-read-block-end-2 c = let h = room (c .before) in search needs
+
+read-block-requires : tie.Need-read-block-requires Inv-loop μ-loop
+read-block-requires c κs =
+    let a = c .before .before .before .before .before .before .before .args in
+    let at = c .before .before .before .loop .at in
+    (c .before .before .before .before .before .before .before .pre .0, (small-part at (at + 63 - at) (a .values .now) (c .before .before .before .before .before .before .before .pre .1 .0), mid-len at (at + 63) (c .before .before .before .loop .destination) (room (c .before .before)) ∙ sym (mid-len at (at + 63) (a .values .now) (within (c .before .before)))))
+
+-- as many values come back as were lent
+long : (c : tie.After-read-block Inv-loop μ-loop) → length (c .read-block .last .1 .1 .1 .1 .1 .1 .1 .0) ≡ c .before .before .before .before .loop .at + 63 - c .before .before .before .before .loop .at
+long c = c .read-block .kept .1 .1 .1 .1 .1 .1 .1 .0 ∙ mid-len (c .before .before .before .before .loop .at) (c .before .before .before .before .loop .at + 63) (c .before .before .before .before .loop .destination) (room (c .before .before .before))
+
+enum-known-read : tie.Need-enum-known-read Inv-loop μ-loop
+enum-known-read c = search needs
+
+same-length : tie.Need-same-length Inv-loop μ-loop
+same-length c = search needs
+
+returns : tie.Need-returns Inv-loop μ-loop
+unfolding blockOf
+returns c = behind-stopped (c .before .before .before .before .before .before .before .before .loop .inv) (c .before .before .before .before .before .before .before .loop-test .taken) (c .before .before .before .before .before .before .before .before .before .before .before .before .pre .1 .1 .1) (c .before .before .before .before .read-block .last .1 .1 .1 .1 .1 .1 .1 .0) (long (c .before .before .before .before)) (sym (c .before .before .before .before .read-block .ensures) ∙ ap (blockOf _ _) (c .before .read .given .1))
+
+enum-known-read-2 : tie.Need-enum-known-read-2 Inv-loop μ-loop
+enum-known-read-2 c = search needs
+
+add-block : tie.Need-add-block Inv-loop μ-loop
+add-block c = search needs
+
+loop-less : tie.Need-loop-less Inv-loop μ-loop
+loop-less c = search needs
+
+loop-again : tie.Need-loop-again Inv-loop μ-loop
+unfolding blockOf
+loop-again c = behind-one (c .before .before .before .before .before .before .before .before .loop .inv) (c .before .before .before .before .before .before .before .loop-test .taken) (c .before .before .before .before .before .before .before .before .before .before .before .before .pre .1 .1 .1) _ (long (c .before .before .before .before)) (sym (c .before .before .before .before .read-block .ensures) ∙ ap (blockOf _ _) (c .before .read2 .given .1))
+
+same-length-2 : tie.Need-same-length-2 Inv-loop μ-loop
+same-length-2 c = c .before .loop .inv .long
+
+returns-2 : tie.Need-returns-2 Inv-loop μ-loop
+returns-2 c = behind-all (c .before .loop .inv) (c .loop-test .left)
+
+pub read-blocks-spec : {M : Type 1} → statement M
+read-blocks-spec =
+    tie.close
+    (tie.spec
+    Inv-loop
+    μ-loop
+    loop-holds
+    add-end
+    sub-read-block
+    mul-read-block
+    sub-read-block-2
+    part-read-block-start
+    part-read-block-end
+    mul-read-block-2
+    sub-read-block-3
+    part-read-block-start-2
+    part-read-block-end-2
+    read-block-requires
+    enum-known-read
+    same-length
+    returns
+    enum-known-read-2
+    add-block
+    loop-less
+    loop-again
+    same-length-2
+    returns-2)

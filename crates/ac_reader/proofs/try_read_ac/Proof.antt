@@ -1,0 +1,139 @@
+-- `ac_reader::try_read_ac` meets its contract: the refusals in their order. Assumes nothing.
+use mathlib.Core.Path.{_≡_, sym, ap, _∙_}
+use mathlib.Core.Bool.{true, false}
+use Prim.Native.Nat.{_-_, _*_, _≤_}
+use lib.Dec.{eqb}
+use lib.ListN.{length}
+use borrow.Author.Tests.{not-true, not-false, eq-eqb, ne-eqb, le-leb, lt-leb}
+use Rattle.laws.specs.Index.{every}
+use Rattle.answers.proofs.Laws.{tried-refused}
+use Rattle.levels.proofs.Ranges.{all-small}
+use Rattle.codes.specs.Table.{table, goodTable}
+use Rattle.planes.specs.Plane.{readable}
+use Rattle.planes.specs.AcRead.{readAc}
+use Rattle.planes.proofs.Ranges.{Ranged, ranged}
+use Rattle.planes.proofs.Closing.{closing}
+use native.Mathlib.Omega.{arith}
+use borrow.Author.Needs.{needs}
+use Rattle.ac_reader.proofs.try_read_ac.Statement.{statement}
+use Rattle.ac_reader.proofs.try_read_ac.Tie as tie
+
+in-ranges-requires : tie.Need-in-ranges-requires
+in-ranges-requires c κs = search needs
+
+refuse-requires : tie.Need-refuse-requires
+refuse-requires c κs = search needs
+
+returns : tie.Need-returns
+unfolding readAc
+returns c = tried-refused (c .refuse .ensures) (rw (sym (c .before .before .in-ranges .ensures) ∙ not-true _ (c .before .if1 .taken)))
+
+-- the counts are good
+counts : (c : tie.Else1) → every (readable (c .before .before .before .before .before .args .plane) (c .before .before .before .before .before .args .blocks)) ≡ true
+counts c = sym (c .before .in-ranges .ensures) ∙ not-false _ (c .if1 .left)
+
+good : (c : tie.Else1) → Ranged (c .before .before .before .before .before .args .plane) (c .before .before .before .before .before .args .blocks)
+good c = ranged (c .before .before .before .before .before .args .plane) (c .before .before .before .before .before .args .blocks) (counts c)
+
+mul-count : tie.Need-mul-count
+mul-count c = let r = good c in search needs
+
+refuse-requires-2 : tie.Need-refuse-requires-2
+refuse-requires-2 c κs = search needs
+
+returns-2 : tie.Need-returns-2
+unfolding readAc
+returns-2 c = tried-refused (c .refuse2 .ensures) (rw (counts (c .before .before), ne-eqb _ _ (c .before .if2 .taken)))
+
+good-table-requires : tie.Need-good-table-requires
+good-table-requires c κs = search needs
+
+refuse-requires-3 : tie.Need-refuse-requires-3
+refuse-requires-3 c κs = search needs
+
+returns-3 : tie.Need-returns-3
+unfolding readAc
+returns-3 c =
+    tried-refused (c .refuse3 .ensures)
+    (rw (counts (c .before .before .before .before), eq-eqb _ _ (c .before .before .before .if2 .left), sym (c .before .before .good-table .ensures) ∙ not-true _ (c .before .if3 .taken)))
+
+-- so is the table
+tabled : (c : tie.Else3) → goodTable (table (c .before .before .before .before .before .before .before .before .args .counts .now) (c .before .before .before .before .before .before .before .before .args .codes .now)) ≡ true
+tabled c = sym (c .before .good-table .ensures) ∙ not-false _ (c .if3 .left)
+
+sub-level : tie.Need-sub-level
+sub-level c = let r = good (c .before .before .before) in omega arith
+
+cast-level : tie.Need-cast-level
+cast-level c = search needs
+
+first-outside-requires : tie.Need-first-outside-requires
+first-outside-requires c κs = let r = good (c .before .before .before) in omega arith
+
+enum-known-i : tie.Need-enum-known-i
+enum-known-i c = search needs
+
+refuse-requires-4 : tie.Need-refuse-requires-4
+refuse-requires-4 c κs = search needs
+
+returns-4 : tie.Need-returns-4
+unfolding readAc
+returns-4 c =
+    tried-refused (c .refuse4 .ensures)
+    (rw (counts (c .before .before .before .before .before .before .before .before), eq-eqb _ _ (c .before .before .before .before .before .before .before .if2 .left), tabled (c .before .before .before .before .before), sym (c .before .before .before .before .first-outside .ensures) ∙ c .before .before .i .given .1))
+
+enum-told : tie.Need-enum-told
+enum-told c = search needs
+
+refuse-requires-5 : tie.Need-refuse-requires-5
+refuse-requires-5 c κs = search needs
+
+returns-5 : tie.Need-returns-5
+unfolding readAc
+returns-5 c =
+    tried-refused (c .refuse5 .ensures)
+    (rw (counts (c .before .before .before .before .before .before .before .before), eq-eqb _ _ (c .before .before .before .before .before .before .before .if2 .left), tabled (c .before .before .before .before .before), sym (c .before .before .before .before .first-outside .ensures) ∙ c .before .before .enum-told .given .1, lt-leb _ _ (c .before .if4 .taken)))
+
+read-blocks-requires : tie.Need-read-blocks-requires
+read-blocks-requires c κs =
+    let r = good (c .before .before .before .before .before .before .before .before) in
+    (tabled (c .before .before .before .before .before), (all-small _ _ _ (omega arith) (sym (c .before .before .before .before .first-outside .ensures) ∙ c .before .before .enum-told .given .1), (c .before .before .before .before .before .before .before .if2 .left, c .before .if4 .left)))
+
+close-plane-requires : tie.Need-close-plane-requires
+close-plane-requires c κs = search needs
+
+same-length : tie.Need-same-length
+same-length c = search needs
+
+returns-6 : tie.Need-returns-6
+unfolding readAc
+returns-6 c =
+    rw (counts (c .before .before .before .before .before .before .before .before .before .before .before), eq-eqb _ _ (c .before .before .before .before .before .before .before .before .before .before .if2 .left), tabled (c .before .before .before .before .before .before .before .before), sym (c .before .before .before .before .before .before .before .first-outside .ensures) ∙ c .before .before .before .before .before .enum-told .given .1, le-leb _ _ (c .before .before .before .before .if4 .left))
+    (closing (c .before .before .read-blocks .ensures) (omega (arith, c .before .before .read-blocks .kept .1 .1 .1 .1 .1 .0, c .before .before .before .before .if4 .left)) (c .close-plane .ensures))
+
+pub try-read-ac-spec : {M : Type 1} → statement M
+try-read-ac-spec =
+    tie.close
+    (tie.spec
+    in-ranges-requires
+    refuse-requires
+    returns
+    mul-count
+    refuse-requires-2
+    returns-2
+    good-table-requires
+    refuse-requires-3
+    returns-3
+    sub-level
+    cast-level
+    first-outside-requires
+    enum-known-i
+    refuse-requires-4
+    returns-4
+    enum-told
+    refuse-requires-5
+    returns-5
+    read-blocks-requires
+    close-plane-requires
+    same-length
+    returns-6)

@@ -1,0 +1,103 @@
+-- What the code's answers on tasks are worth, case by case, in the terms that its tests leave. Assumes nothing.
+use mathlib.Core.Path.{_≡_, refl, sym, ap, ap₂, subst, _∙_}
+use mathlib.Core.Bool.{Bool, true, false}
+use mathlib.Core.List.{List, []}
+use mathlib.Core.Option.{Option, none, some}
+use Prim.Native.Nat.{ℕ, zero, suc, _+_, _-_, _*_, _/_, _%_, _^_, _≤_, _<_}
+use native.Mathlib.Omega.{arith}
+use lib.Bits.{bitAnd, and-mask}
+use lib.Dec.{leb}
+use lib.IntN.{ℤ, pos, negsuc}
+use borrow.Author.Tests.{le-leb, lt-leb}
+use Rattle.bits.specs.Source.{Source, Out, got, stopped, stop, takeBit}
+use Rattle.bits.specs.Reader.{andThen, done}
+use Rattle.bits.specs.Code.{sourceOf}
+use Rattle.bits.specs.declared.Cursor.{Cursor}
+use Rattle.planes.specs.Task.{Task, walk, ended, atZero, pass, unit}
+use Rattle.planes.specs.AcRead.{meaning, corrected, position, blockEnd}
+use Rattle.ac_tasks.specs.Code.{taskOf, openOf, placedOf, blockOf, Passes, Ends}
+use Rattle.ac_tasks.specs.declared.Job.{Job}
+use Rattle.ac_tasks.specs.declared.Job.the-variants.{Leave, Set, Ended}
+use Rattle.ac_tasks.specs.declared.Open.{Open}
+use Rattle.ac_tasks.specs.declared.Open.the-variants.{Nothing, Doing}
+use Rattle.ac_tasks.specs.declared.Placed.the-variants.{To}
+use Rattle.ac_tasks.specs.declared.Block.the-variants.{Done, Halted}
+use Rattle.ac_tasks.proofs.Numbers.{moved-one}
+
+one-less : (n : ℕ) → (n ≡ 0 → ⊥) → n ≡ suc (n - 1)
+one-less n h = omega arith
+
+-- ---- the end of a block
+
+module _ {task : Open} {c : Cursor} where
+  pub ends-none : task ≡ Nothing → Ends task c (Done Nothing c)
+  unfolding blockEnd blockOf
+  ends-none e = rw e (record { same = λ bytes. refl })
+
+  module _ {job : Job} (e : task ≡ Doing job) where
+    pub ends-walk : {n : ℕ} {sign : Option Bool} → taskOf job ≡ walk n sign → Ends task c (Halted (stop 16))
+    unfolding blockEnd blockOf
+    ends-walk q = record { same = λ bytes. rw (e, q) }
+
+    pub ends-last : {n : ℕ} → job ≡ Ended n → n ≡ 0 → Ends task c (Done Nothing c)
+    unfolding blockEnd blockOf
+    ends-last q z = rw (e, q, z) (record { same = λ bytes. refl })
+
+    pub ends-run : {n : ℕ} → job ≡ Ended n → (n ≡ 0 → ⊥) → Ends task c (Done (Doing (Ended (n - 1))) c)
+    unfolding blockEnd blockOf
+    ends-run {n} q z = rw (e, q) (record { same = λ bytes. sym (ap (λ (k : ℕ). blockEnd (some (ended k)) (sourceOf bytes c)) (one-less n z)) })
+
+-- ---- at a zero
+
+module _ {job : Job} {c : Cursor} where
+  passes : {value : ℤ} {task : Open} → atZero (taskOf job) ≡ value → pass (taskOf job) ≡ openOf task → Passes job c (To value task c)
+  unfolding placedOf
+  passes e q = record { same = λ bytes. sym (ap₂ (λ (v : ℤ) (o : Option Task). got (v, o) (sourceOf bytes c)) e q) }
+
+  module _ {n : ℕ} {sign : Option Bool} (e : taskOf job ≡ walk n sign) where
+    -- the zero that the walk was for
+    pub passes-last : {value : ℤ} → n ≡ 0 → atZero (walk 0 sign) ≡ value → Passes job c (To value Nothing c)
+    passes-last z q =
+        let w : taskOf job ≡ walk 0 sign = rw z at e in
+        passes (ap atZero w ∙ q) (ap pass w)
+
+    pub passes-on : {left : Job} → (n ≡ 0 → ⊥) → taskOf left ≡ walk (n - 1) sign → Passes job c (To (pos 0) (Doing left) c)
+    passes-on z q =
+        let w : taskOf job ≡ walk (suc (n - 1)) sign = e ∙ ap (λ (k : ℕ). walk k sign) (one-less n z) in
+        passes (ap atZero w) (ap pass w ∙ ap some (sym q))
+
+  pub passes-ended : {n : ℕ} → job ≡ Ended n → Passes job c (To (pos 0) (Doing (Ended n)) c)
+  passes-ended e = passes (ap (λ (j : Job). atZero (taskOf j)) e) (ap (λ (j : Job). pass (taskOf j)) e)
+
+-- ---- at a position
+
+-- a value that is not zero takes one correction bit
+pub corrects : (t : Task) (value : ℤ) (s : Source) → (value ≡ pos 0 → ⊥) → position t value s ≡ andThen (λ (b : Bool). done (corrected value b, some t)) (takeBit s)
+unfolding position
+corrects t (pos zero) s z = absurd (z refl)
+corrects t (pos (suc n)) s z = refl
+corrects t (negsuc n) s z = refl
+
+-- ---- an end run, in the code's terms
+
+module _ (left r e : ℕ) (h : r < 15) where
+  pub run-fits : 1 * 2 ^ r % 18446744073709551616 + e ≤ left → leb (2 ^ r + e) left ≡ true
+  run-fits l = le-leb (2 ^ r + e) left (rw (moved-one r h) at l)
+
+  pub run-past : left < 1 * 2 ^ r % 18446744073709551616 + e → leb (2 ^ r + e) left ≡ false
+  run-past l = lt-leb (2 ^ r + e) left (rw (moved-one r h) at l)
+
+-- ---- what a code means
+
+pub low-bits : (v s : ℕ) → bitAnd v 15 ≡ s → v % 16 ≡ s
+low-bits v s e = sym (and-mask v 4) ∙ e
+
+pub low-one : (v : ℕ) → (bitAnd v 15 ≡ 0 → ⊥) → bitAnd v 15 ≤ 1 → v % 16 ≡ 1
+low-one v z l = low-bits v 1 (omega arith)
+
+pub unused : (v left r : ℕ) (s : Source) → 1 < bitAnd v 15 → stopped (stop 15) ≡ meaning left r (v % 16) s
+unfolding meaning
+unused v left r s h =
+    let m : bitAnd v 15 ≡ v % 16 = and-mask v 4 in
+    let e : v % 16 ≡ suc (suc (v % 16 - 2)) = omega arith in
+    ap (λ (k : ℕ). meaning left r k s) (sym e)

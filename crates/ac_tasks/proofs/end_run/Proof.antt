@@ -1,0 +1,61 @@
+-- `ac_tasks::end_run` meets its contract. Assumes nothing.
+use mathlib.Core.Path.{_≡_, sym, ap, _∙_}
+use lib.Pow.{pow-pos}
+use Rattle.planes.specs.AcRead.{endRun}
+use Rattle.ac_tasks.specs.Code.{numberOf, toldOf}
+use Rattle.ac_tasks.proofs.Numbers.{moved-one, power-small}
+use Rattle.ac_tasks.proofs.Tasks.{run-fits, run-past}
+use native.Mathlib.Omega.{arith}
+use borrow.Author.Needs.{needs}
+use Rattle.ac_tasks.proofs.end_run.Statement.{statement}
+use Rattle.ac_tasks.proofs.end_run.Tie as tie
+
+take-number-requires : tie.Need-take-number-requires
+take-number-requires c κs = search needs
+
+enum-known-t : tie.Need-enum-known-t
+enum-known-t c = search needs
+
+shl-run : tie.Need-shl-run
+shl-run c = search needs
+
+add-run : tie.Need-add-run
+add-run c =
+    let r = c .before .before .before .before .before .args .r in
+    omega (arith, moved-one r (c .before .before .before .before .before .pre), power-small r (c .before .before .before .before .before .pre), c .before .before .before .take-number .ensures .small _ _ (c .before .t .given .1))
+
+sub-t13 : tie.Need-sub-t13
+sub-t13 c = omega (arith, moved-one (c .before .before .before .before .before .before .args .r) (c .before .before .before .before .before .before .pre), pow-pos (c .before .before .before .before .before .before .args .r))
+
+returns : tie.Need-returns
+unfolding endRun toldOf numberOf
+returns c =
+    let a = c .before .before .before .before .before .before .args in
+    rw (sym (c .before .before .before .before .take-number .ensures .same) ∙ ap (numberOf _) (c .before .before .t .given .1), run-fits (a .left) (a .r) (c .before .before .t .given .0 .0) (c .before .before .before .before .before .before .pre) (c .if1 .taken), moved-one (a .r) (c .before .before .before .before .before .before .pre))
+
+enum-known-t-2 : tie.Need-enum-known-t-2
+enum-known-t-2 c = search needs
+
+returns-2 : tie.Need-returns-2
+unfolding endRun toldOf numberOf
+returns-2 c =
+    let a = c .before .before .before .before .before .before .args in
+    rw (sym (c .before .before .before .before .take-number .ensures .same) ∙ ap (numberOf _) (c .before .before .t .given .1), run-past (a .left) (a .r) (c .before .before .t .given .0 .0) (c .before .before .before .before .before .before .pre) (c .if1 .left))
+
+returns-3 : tie.Need-returns-3
+unfolding endRun toldOf numberOf
+returns-3 c = rw (sym (c .before .before .before .take-number .ensures .same) ∙ ap (numberOf _) (c .before .t2 .given .1))
+
+pub end-run-spec : {M : Type 1} → statement M
+end-run-spec =
+    tie.close
+    (tie.spec
+    take-number-requires
+    enum-known-t
+    shl-run
+    add-run
+    sub-t13
+    returns
+    enum-known-t-2
+    returns-2
+    returns-3)

@@ -1,0 +1,82 @@
+-- `ac_tasks::take_number` meets its contract: what is left to read gives what the whole gives. Assumes nothing.
+use mathlib.Core.Path.{_≡_, sym, ap, _∙_}
+use Rattle.bits.specs.Source.{got, takeBit}
+use Rattle.bits.specs.Code.{sourceOf, takenOf}
+use Rattle.codes.proofs.Reading.{bin-small}
+use Rattle.ac_tasks.proofs.Numbers.{Now, now-first, now-small, now-end, now-stopped, now-turn}
+use native.Mathlib.Omega.{arith}
+use borrow.Author.Needs.{needs}
+use Rattle.ac_tasks.proofs.take_number.Statement.{statement}
+use Rattle.ac_tasks.proofs.take_number.Tie as tie
+
+abbrev Inv-loop : tie.InvT-loop
+Inv-loop «data» n cursor₀ v₀ left₀ cursor v left = Now «data» n cursor₀ cursor v left
+
+abbrev μ-loop : tie.MeasureT-loop
+μ-loop «data» n cursor₀ v₀ left₀ cursor v left = left
+
+loop-holds : tie.Need-loop-holds Inv-loop μ-loop
+loop-holds c = now-first
+
+take-bit-requires : tie.Need-take-bit-requires Inv-loop μ-loop
+take-bit-requires c κs = search needs
+
+enum-known-t : tie.Need-enum-known-t Inv-loop μ-loop
+enum-known-t c = search needs
+
+mul-v : tie.Need-mul-v Inv-loop μ-loop
+mul-v c = omega (arith, now-small (c .before .before .before .before .before .loop .inv) (c .before .before .before .before .before .before .before .pre))
+
+cast-v : tie.Need-cast-v Inv-loop μ-loop
+cast-v c = search needs
+
+add-v : tie.Need-add-v Inv-loop μ-loop
+add-v c = omega (arith, bin-small (c .before .t .given .0 .0), now-small (c .before .before .before .before .before .loop .inv) (c .before .before .before .before .before .before .before .pre))
+
+enum-told : tie.Need-enum-told Inv-loop μ-loop
+enum-told c = search needs
+
+returns : tie.Need-returns Inv-loop μ-loop
+unfolding takenOf
+returns c = now-stopped (c .before .before .before .before .loop .inv) (c .before .before .before .loop-test .taken) (sym (c .before .before .take-bit .ensures) ∙ ap (takenOf _) (c .enum-told .given .1))
+
+enum-told-2 : tie.Need-enum-told-2 Inv-loop μ-loop
+enum-told-2 c = search needs
+
+returns-2 : tie.Need-returns-2 Inv-loop μ-loop
+unfolding takenOf
+returns-2 c = now-stopped (c .before .before .before .before .loop .inv) (c .before .before .before .loop-test .taken) (sym (c .before .before .take-bit .ensures) ∙ ap (takenOf _) (c .enum-told2 .given .1))
+
+sub-left : tie.Need-sub-left Inv-loop μ-loop
+sub-left c = search needs
+
+loop-less : tie.Need-loop-less Inv-loop μ-loop
+loop-less c = search needs
+
+loop-again : tie.Need-loop-again Inv-loop μ-loop
+unfolding takenOf
+loop-again c = now-turn (c .before .before .before .before .before .loop .inv) (c .before .before .before .before .loop-test .taken) (sym (c .before .before .before .take-bit .ensures) ∙ ap (takenOf _) (c .before .t .given .1))
+
+returns-3 : tie.Need-returns-3 Inv-loop μ-loop
+returns-3 c = now-end (c .before .loop .inv) (c .loop-test .left)
+
+pub take-number-spec : {M : Type 1} → statement M
+take-number-spec =
+    tie.close
+    (tie.spec
+    Inv-loop
+    μ-loop
+    loop-holds
+    take-bit-requires
+    enum-known-t
+    mul-v
+    cast-v
+    add-v
+    enum-told
+    returns
+    enum-told-2
+    returns-2
+    sub-left
+    loop-less
+    loop-again
+    returns-3)

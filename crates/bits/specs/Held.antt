@@ -1,0 +1,18 @@
+-- What a reader that holds its data stands for: a cursor in these data.
+use mathlib.Core.List.{List}
+use Prim.Native.Nat.{ℕ}
+use denote.Ref.{RefT}
+use Rattle.bits.specs.declared.Cursor.{Cursor}
+use Rattle.bits.specs.declared.reader.BitReader.{BitReader}
+
+-- nothing was read
+abbrev pub unread : Cursor
+unread = record { at = 0; left = 0; byte = 0 }
+
+-- the reader that holds these data, at this cursor
+abbrev pub readerAt : RefT (List ℕ) → Cursor → BitReader
+readerAt bytes c = record { «data» = bytes; at = c .at; left = c .left; byte = c .byte }
+
+-- the cursor of a reader: with its data it stands for a source, by `sourceOf`
+abbrev pub cursorOf : BitReader → Cursor
+cursorOf r = record { at = r .at; left = r .left; byte = r .byte }

@@ -1,0 +1,182 @@
+-- From what the passes find to the verdict, case by case. Assumes nothing.
+use Prim.Native.Nat.{ℕ, zero, suc, _+_, _-_, _≤_, _<_}
+use mathlib.Core.Path.{_≡_, refl, ap, ap₂, sym, subst, _∙_}
+use mathlib.Core.List.{List, [], _∷_, _++_}
+use mathlib.Core.Bool.{Bool, true, false, cond}
+use native.Mathlib.Omega.{arith}
+use lib.ListN.{length, drop}
+use lib.Dec.{eqb, leb}
+use borrow.Author.Tests.{eq-eqb, ne-eqb, le-leb, lt-leb}
+use Rattle.laws.specs.declared.Found.{Found}
+use Rattle.laws.specs.declared.Found.the-variants.{At, Nothing}
+use Rattle.answers.specs.Verdict.{Verdict, given, refused, refusal, Tried}
+use Rattle.answers.proofs.Laws.{tried-given}
+use Rattle.answers.specs.declared.Refusal.{Refusal}
+use Rattle.answers.specs.declared.Outcome.the-variants.{Given, Refused}
+use Rattle.packets.specs.declared.Head.{Head}
+use Rattle.packets.specs.Walk.{walk, ending}
+use Rattle.packets.specs.Packets.{Packet, mineFrom, Met}
+use Rattle.packets.proofs.Walking.{mine-all}
+use Rattle.numbers.specs.Numbers.{numbers, numbersFrom, twice, missingFrom, missing}
+use Rattle.numbers.proofs.Smallest.{pigeonhole}
+use Rattle.boxes.specs.declared.Fault.{Fault}
+use Rattle.boxes.specs.declared.Fault.the-variants.{Fine, Twice, Missing}
+use Rattle.boxes.specs.Box.{agree, contents, total, joined, assembled, assemble, afterWalk, boxOf}
+use Rattle.boxes.specs.Order.{payloads, inOrder}
+use Rattle.boxes.specs.Pass.{mineOf, faultBy, faultOf, Numbered, Whole, ReadyIs, putAt}
+use Rattle.boxes.specs.declared.Ready.{Ready}
+use Rattle.boxes.specs.declared.Ready.the-variants.{Not, Yes}
+use Rattle.boxes.proofs.Order.{numbers-length, fine-total, order-twice, order-missing, order-joined}
+use Rattle.boxes.proofs.Puts.{put-front}
+
+-- ---- what is wrong with the numbers
+
+module _ (ns : List ℕ) where
+  fault-fine : twice ns ≡ Nothing → missing ns ≡ Nothing → faultOf ns ≡ Fine
+  unfolding faultOf
+  fault-fine t m = rw (t, m)
+
+  fault-twice : {q : ℕ} → twice ns ≡ At q → faultOf ns ≡ Twice q
+  unfolding faultOf
+  fault-twice t = rw t
+
+  fault-missing : {q : ℕ} → twice ns ≡ Nothing → missing ns ≡ At q → faultOf ns ≡ Missing q
+  unfolding faultOf
+  fault-missing t m = rw (t, m)
+
+  pub told-fine : faultOf ns ≡ Fine → (twice ns ≡ Nothing) × (missing ns ≡ Nothing)
+  unfolding faultOf
+  told-fine e = go (twice ns) refl (missing ns) refl e
+    where
+      go : (t : Found) → twice ns ≡ t → (m : Found) → missing ns ≡ m → faultBy t m ≡ Fine → (twice ns ≡ Nothing) × (missing ns ≡ Nothing)
+      go (At q) f m g h = let z : _≡_ {A = ℕ} 0 1 = cc in absurd (omega arith)
+      go Nothing f (At q) g h = let z : _≡_ {A = ℕ} 0 1 = cc in absurd (omega arith)
+      go Nothing f Nothing g h = (f, g)
+
+  told-twice : {q : ℕ} → faultOf ns ≡ Twice q → twice ns ≡ At q
+  unfolding faultOf
+  told-twice {q} e = go (twice ns) refl (missing ns) e
+    where
+      go : (t : Found) → twice ns ≡ t → (m : Found) → faultBy t m ≡ Twice q → twice ns ≡ At q
+      go (At p) f m h = let z : p ≡ q = cc in rw (← z) f
+      go Nothing f (At p) h = let z : _≡_ {A = ℕ} 0 1 = cc in absurd (omega arith)
+      go Nothing f Nothing h = let z : _≡_ {A = ℕ} 0 1 = cc in absurd (omega arith)
+
+  told-missing : {q : ℕ} → faultOf ns ≡ Missing q → (twice ns ≡ Nothing) × (missing ns ≡ At q)
+  unfolding faultOf
+  told-missing {q} e = go (twice ns) refl (missing ns) refl e
+    where
+      go : (t : Found) → twice ns ≡ t → (m : Found) → missing ns ≡ m → faultBy t m ≡ Missing q → (twice ns ≡ Nothing) × (missing ns ≡ At q)
+      go (At p) f m g h = let z : _≡_ {A = ℕ} 0 1 = cc in absurd (omega arith)
+      go Nothing f (At p) g h = let z : p ≡ q = cc in (f, rw (← z) g)
+      go Nothing f Nothing g h = let z : _≡_ {A = ℕ} 0 1 = cc in absurd (omega arith)
+
+-- the code's searches, by a walk of the file
+module _ (file : List ℕ) (kind instance : ℕ) where
+  pub ordered-fine : inOrder 1 (numbers (mineOf file kind instance)) ≡ true → Fine ≡ faultOf (numbers (mineOf file kind instance))
+  ordered-fine h = sym (fault-fine _ (order-twice (mineOf file kind instance) h) (order-missing (mineOf file kind instance) h))
+
+  missing-of : (n : ℕ) → n ≡ length (mineOf file kind instance) → missingFrom n 1 (numbersFrom file kind instance 2) ≡ missing (numbers (mineOf file kind instance))
+  unfolding missing numbersFrom
+  missing-of n e = rw (e, numbers-length (mineOf file kind instance))
+
+  twice-of : twice (numbersFrom file kind instance 2) ≡ twice (numbers (mineOf file kind instance))
+  unfolding numbersFrom
+  twice-of = refl
+
+  -- none of 1 to n is missing, so none stands twice
+  pub searched-fine : {n : ℕ} {m : Found} → n ≡ length (mineOf file kind instance) → m ≡ missingFrom n 1 (numbersFrom file kind instance 2) → m ≡ Nothing
+      → Fine ≡ faultOf (numbers (mineOf file kind instance))
+  searched-fine {n} e f g =
+      let z : missing (numbers (mineOf file kind instance)) ≡ Nothing = sym (missing-of n e) ∙ sym f ∙ g in
+      sym (fault-fine _ (pigeonhole (numbers (mineOf file kind instance)) z) z)
+
+  pub searched-twice : {t : Found} {q : ℕ} → t ≡ twice (numbersFrom file kind instance 2) → t ≡ At q → Twice q ≡ faultOf (numbers (mineOf file kind instance))
+  searched-twice f g = sym (fault-twice _ (sym twice-of ∙ sym f ∙ g))
+
+  pub searched-missing : {n : ℕ} {m t : Found} {q : ℕ} → n ≡ length (mineOf file kind instance) → m ≡ missingFrom n 1 (numbersFrom file kind instance 2) → m ≡ At q
+      → t ≡ twice (numbersFrom file kind instance 2) → t ≡ Nothing → Missing q ≡ faultOf (numbers (mineOf file kind instance))
+  searched-missing {n} e f g h i = sym (fault-missing _ (sym twice-of ∙ sym h ∙ i) (sym (missing-of n e) ∙ sym f ∙ g))
+
+-- ---- the verdict for a list of packets
+
+module _ (room : ℕ) (h : Head) (ps : List Packet) where
+  pub answer-5 : agree h ps ≡ false → assembled room h ps ≡ refused (refusal 5 0)
+  unfolding assembled
+  answer-5 a = rw a
+
+  pub answer-6 : {q : ℕ} → agree h ps ≡ true → faultOf (numbers ps) ≡ Twice q → assembled room h ps ≡ refused (refusal 6 q)
+  unfolding assembled
+  answer-6 a f = rw (a, told-twice (numbers ps) f)
+
+  pub answer-7 : {q : ℕ} → agree h ps ≡ true → faultOf (numbers ps) ≡ Missing q → assembled room h ps ≡ refused (refusal 7 q)
+  unfolding assembled
+  answer-7 a f = let t = told-missing (numbers ps) f in rw (a, t .0, t .1)
+
+  module _ (a : agree h ps ≡ true) (f : faultOf (numbers ps) ≡ Fine) where
+    pub answer-8 : (total ps ≡ contents h → ⊥) → assembled room h ps ≡ refused (refusal 8 (total ps))
+    unfolding assembled
+    answer-8 n = let t = told-fine (numbers ps) f in rw (a, t .0, t .1, ne-eqb (total ps) (contents h) n)
+
+    pub answer-size : length (joined ps) ≡ total ps
+    answer-size = let t = told-fine (numbers ps) f in fine-total ps (t .0) (t .1)
+
+    pub answer-9 : total ps ≡ contents h → room < total ps → assembled room h ps ≡ refused (refusal 9 (total ps))
+    unfolding assembled
+    answer-9 e l =
+        let t = told-fine (numbers ps) f in
+        rw (a, t .0, t .1, eq-eqb (total ps) (contents h) e, answer-size, lt-leb (total ps) room l)
+
+    pub answer-0 : total ps ≡ contents h → total ps ≤ room → assembled room h ps ≡ given (joined ps)
+    unfolding assembled
+    answer-0 e l =
+        let t = told-fine (numbers ps) f in
+        rw (a, t .0, t .1, eq-eqb (total ps) (contents h) e, le-leb (length (joined ps)) room (omega (arith, answer-size)))
+
+-- ---- the verdict for a file
+
+module _ (file : List ℕ) (kind instance room : ℕ) where
+  pub file-refused : {r : Refusal} → ending (walk file) ≡ Refused r → boxOf file kind instance room ≡ refused r
+  unfolding boxOf
+  file-refused e = rw e
+
+  file-packets : {count : ℕ} → ending (walk file) ≡ Given count → boxOf file kind instance room ≡ assemble room (mineOf file kind instance)
+  unfolding boxOf
+  file-packets e = rw e (ap (assemble room) (mine-all file kind instance _ e))
+
+  pub file-none : {count : ℕ} → ending (walk file) ≡ Given count → mineOf file kind instance ≡ [] → boxOf file kind instance room ≡ refused (refusal 4 0)
+  unfolding assemble
+  file-none e n = file-packets e ∙ rw n
+
+  pub file-some : {count : ℕ} → ending (walk file) ≡ Given count → {head : Head} {start len next : ℕ} → Met file kind instance 2 head start len next
+      → boxOf file kind instance room ≡ assembled room head (mineOf file kind instance)
+  unfolding assemble
+  file-some e m = file-packets e ∙ rw (m .list)
+
+-- ---- what is handed out
+
+module _ {ps : List Packet} {room : ℕ} {v : Verdict ℕ} {n sum : ℕ} {ordered : Bool} (w : Whole ps room v n sum ordered) where
+  bytes-room : length (joined ps) ≤ room
+  bytes-room = omega (arith, w .size, w .fits)
+
+  pub number-room : Numbered ps n room
+  number-room = record { many = w .many; once = w .once; fits = bytes-room }
+
+  pub put-tried : (d after : List ℕ) → after ≡ putAt d 0 (joined ps) → Tried 0 v d after (Given sum)
+  put-tried d after e = tried-given (ap Given (sym (w .size))) (w .says) (e ∙ put-front d (joined ps))
+
+  ordered-bytes : ordered ≡ true → joined ps ≡ payloads ps
+  ordered-bytes e = order-joined ps (sym (w .order) ∙ e)
+
+  pub order-room : ordered ≡ true → length (payloads ps) ≤ room
+  order-room e = omega (arith, ap length (ordered-bytes e), bytes-room)
+
+  pub order-tried : ordered ≡ true → (d after : List ℕ) → after ≡ putAt d 0 (payloads ps) → Tried 0 v d after (Given sum)
+  order-tried o d after e = put-tried d after (e ∙ ap (putAt d 0) (sym (ordered-bytes o)))
+
+pub ready-yes : (ps : List Packet) (room : ℕ) (v : Verdict ℕ) {r : Ready} {n sum : ℕ} {ordered : Bool} → ReadyIs ps room v r → r ≡ Yes n sum ordered
+    → Whole ps room v n sum ordered
+ready-yes ps room v h e = subst (ReadyIs ps room v) e h
+
+pub ready-not : (ps : List Packet) (room : ℕ) (v : Verdict ℕ) {r : Ready} {f : Refusal} → ReadyIs ps room v r → r ≡ Not f → v ≡ refused f
+ready-not ps room v h e = subst (ReadyIs ps room v) e h

@@ -1,0 +1,70 @@
+-- `boxes::scan_all` meets its contract: what was met and what is left make the whole.
+use Rattle.packets.proofs.Walking.{met, gone}
+use Rattle.boxes.proofs.Passes.{Passing, pass-start, pass-turn, pass-end}
+use lib.ListN.{length}
+use Prim.Native.Nat.{_-_}
+use native.Mathlib.Omega.{arith}
+use borrow.Author.Needs.{needs}
+use Rattle.boxes.proofs.scan_all.Statement.{statement}
+use Rattle.boxes.proofs.scan_all.Tie as tie
+
+abbrev Inv-loop : tie.InvT-loop
+Inv-loop file kind instance h at₀ n₀ total₀ agree₀ ordered₀ at n total agree ordered = Passing file kind instance h at n total agree ordered
+
+abbrev μ-loop : tie.MeasureT-loop
+μ-loop file kind instance h at₀ n₀ total₀ agree₀ ordered₀ at n total agree ordered = length file - at
+
+loop-holds : tie.Need-loop-holds Inv-loop μ-loop
+loop-holds c = pass-start _ _ _ _
+
+next-mine-requires : tie.Need-next-mine-requires Inv-loop μ-loop
+next-mine-requires c κs = search needs
+
+enum-told : tie.Need-enum-told Inv-loop μ-loop
+enum-told c = search needs
+
+returns : tie.Need-returns Inv-loop μ-loop
+returns c = (pass-end (c .before .before .before .loop .inv) (gone _ _ _ _ (c .before .before .next-mine .ensures) (c .enum-told .given .1)), c .before .before .before .loop .inv .few)
+
+enum-known-head : tie.Need-enum-known-head Inv-loop μ-loop
+enum-known-head c = search needs
+
+add-n : tie.Need-add-n Inv-loop μ-loop
+add-n c = let m = met _ _ _ _ (c .before .before .before .next-mine .ensures) (c .before .head .given .1) in omega arith
+
+add-total : tie.Need-add-total Inv-loop μ-loop
+add-total c = let m = met _ _ _ _ (c .before .before .before .next-mine .ensures) (c .before .head .given .1) in omega arith
+
+alike-requires : tie.Need-alike-requires Inv-loop μ-loop
+alike-requires c κs = search needs
+
+cast-also : tie.Need-cast-also Inv-loop μ-loop
+cast-also c = search needs
+
+also-requires : tie.Need-also-requires Inv-loop μ-loop
+also-requires c κs = search needs
+
+loop-less : tie.Need-loop-less Inv-loop μ-loop
+loop-less c = let m = met _ _ _ _ (c .before .before .before .before .before .before .next-mine .ensures) (c .before .before .before .before .head .given .1) in omega arith
+
+loop-again : tie.Need-loop-again Inv-loop μ-loop
+loop-again c = pass-turn (c .before .before .before .before .before .before .before .loop .inv) (met _ _ _ _ (c .before .before .before .before .before .before .next-mine .ensures) (c .before .before .before .before .head .given .1)) (c .before .before .alike .ensures) (c .also .ensures)
+
+pub scan-all-spec : {M : Type 1} → statement M
+scan-all-spec =
+    tie.close
+    (tie.spec
+    Inv-loop
+    μ-loop
+    loop-holds
+    next-mine-requires
+    enum-told
+    returns
+    enum-known-head
+    add-n
+    add-total
+    alike-requires
+    cast-also
+    also-requires
+    loop-less
+    loop-again)

@@ -1,0 +1,81 @@
+-- `curves::curved` meets its contract: a curve at a time. Assumes nothing.
+use borrow.Author.Needs.{needs}
+use mathlib.Core.Path.{_∙_, ap}
+use native.Mathlib.Omega.{arith}
+use lib.IntN.{pos, natAbs}
+use mir.Syntax.{w64}
+use Rattle.laws.proofs.Integers.{back}
+use Rattle.curves.specs.Curves.{curved}
+use Rattle.curves.proofs.Laws.{in-table, in-srgb}
+use Rattle.curves.proofs.curved.Statement.{statement}
+use Rattle.curves.proofs.curved.Tie as tie
+
+enum-told : tie.Need-enum-told
+enum-told c = search needs
+
+straight-requires : tie.Need-straight-requires
+straight-requires c κs = search needs
+
+enum-told-2 : tie.Need-enum-told-2
+enum-told-2 c = search needs
+
+entry-requires : tie.Need-entry-requires
+entry-requires c κs =
+    let s = c .before .before .before in
+    in-table (s .pre .1) (s .args .x) (s .pre .0 .1 .1) (s .pre .0 .1 .0) (c .enum-told2 .given .1)
+
+cast-wide-count : tie.Need-cast-wide-count
+cast-wide-count c = search needs
+
+wide-count-requires : tie.Need-wide-count-requires
+wide-count-requires c κs = search needs
+
+enum-told-3 : tie.Need-enum-told-3
+enum-told-3 c = search needs
+
+srgb-requires : tie.Need-srgb-requires
+srgb-requires c κs =
+    let s = c .before .before .before in
+    in-srgb (s .pre .1) (s .args .x) (s .pre .0 .1 .1) (c .enum-told3 .given .1)
+
+cast-wide-count-2 : tie.Need-cast-wide-count-2
+cast-wide-count-2 c = search needs
+
+wide-count-requires-2 : tie.Need-wide-count-requires-2
+wide-count-requires-2 c κs = search needs
+
+returns : tie.Need-returns
+unfolding curved
+returns c =
+    let r = c .straight in
+    rw (back w64 (r .result) (r .ok), c .before .enum-told .given .1) (r .ensures .0, r .ensures .1)
+
+returns-2 : tie.Need-returns-2
+unfolding curved
+returns-2 c =
+    let r = c .wide-count in
+    rw (back w64 (r .result) (r .ok), c .before .before .enum-told2 .given .1) (r .ensures ∙ ap pos (c .before .entry .ensures), omega (arith, ap natAbs (r .ensures)))
+
+returns-3 : tie.Need-returns-3
+unfolding curved
+returns-3 c =
+    let r = c .wide-count2 in
+    rw (back w64 (r .result) (r .ok), c .before .before .enum-told3 .given .1) (r .ensures ∙ ap pos (c .before .srgb .ensures), omega (arith, ap natAbs (r .ensures)))
+
+pub curved-spec : {M : Type 1} → statement M
+curved-spec =
+    tie.close
+    (tie.spec
+    enum-told
+    straight-requires
+    enum-told-2
+    entry-requires
+    cast-wide-count
+    wide-count-requires
+    enum-told-3
+    srgb-requires
+    cast-wide-count-2
+    wide-count-requires-2
+    returns
+    returns-2
+    returns-3)

@@ -1,0 +1,31 @@
+-- The base curve of the merge (01, "Merge", step 2).
+use mathlib.Core.Path.{_≡_}
+use mathlib.Core.List.{List}
+use Prim.Native.Nat.{ℕ, _+_, _*_, _^_}
+use lib.IntN.{ℤ, pos}
+use lib.ListN.{length, getD}
+use Rattle.rounding.specs.Near.{nearest, top}
+use Rattle.curves.specs.declared.Curve.{Curve}
+use Rattle.curves.specs.declared.Curve.the-variants.{Straight, Table, Srgb}
+use Rattle.curves.specs.Srgb.{srgb}
+
+-- "straight, nearest to x(2^(8+Rb)-1)/(2^(8+Rh)-1)"
+unfoldable pub straight : ℕ → ℕ → ℕ → ℤ
+straight rb rh x = nearest (pos (x * top rb)) (top rh)
+
+-- "straight ..; a lent table of 2^(8+Rh) numbers ..; or the inverse sRGB table"
+unfoldable pub curved : Curve → ℕ → ℕ → List ℕ → ℕ → ℤ
+curved Straight rb rh table x = straight rb rh x
+curved Table rb rh table x = pos (getD table x 0)
+curved Srgb rb rh table x = pos (getD srgb x 0)
+
+-- "a lent table of 2^(8+Rh) numbers", and no other curve has one
+unfoldable pub entries : Curve → ℕ → ℕ
+entries Straight rh = 0
+entries Table rh = 2 ^ (8 + rh)
+entries Srgb rh = 0
+
+-- a curve whose table is there, and the sRGB curve "only at Rh 0"
+pub record Lent (curve : Curve) (rh : ℕ) (table : List ℕ) : Type 0 where
+  pub tabled : length table ≡ entries curve rh
+  pub plain : curve ≡ Srgb → rh ≡ 0

@@ -1,0 +1,2 @@
+pub mod Srgb
+pub mod Curves

@@ -1,0 +1,1 @@
+// No code: specs/ holds the user's demands as statements over the definitions, proofs/ their proofs.

@@ -1,0 +1,195 @@
+-- `merge::try_merge` meets its contract: one law of the definition's order at each return. Assumes nothing.
+use borrow.Author.Needs.{needs}
+use borrow.Author.Tests.{not-true, not-false}
+use mathlib.Core.Path.{_≡_, sym, ap, _∙_}
+use mathlib.Core.Bool.{true}
+use mathlib.Core.Logic.{⊎-elim}
+use native.Mathlib.Omega.{arith}
+use mathlib.Core.List.{_++_}
+use lib.ListN.{length, drop}
+use Rattle.laws.specs.First.{firstFail}
+use Rattle.answers.proofs.Laws.{tried-refused, tried-given}
+use Rattle.answers.specs.declared.Outcome.the-variants.{Given}
+use Rattle.rounding.specs.Near.{top}
+use Rattle.merge.specs.Picture.{picture}
+use Rattle.settings.specs.Tests.{inRanges, plain, srgbAllowed, lengthsRight, entryRight, Ranged, Lending}
+use Rattle.settings.proofs.Laws.{ranged, lending, one-or-three, count-small}
+use Rattle.merge.proofs.Order.{no-range, not-plain, no-srgb, no-lengths, too-large, no-room, all-right, picture-long}
+use Rattle.merge.proofs.try_merge.Statement.{statement}
+use Rattle.merge.proofs.try_merge.Tie as tie
+
+-- what is known once a test is passed
+passed-1 : (c : tie.Else1) → inRanges (c .before .before .before .before .args .s) (c .before .before .before .before .args .pixels) ≡ true
+passed-1 c = sym (c .before .in-ranges .ensures) ∙ not-false _ (c .if1 .left)
+
+passed-2 : (c : tie.Else2) → plain (c .before .before .before .before .before .before .args .s) ≡ true
+passed-2 c = sym (c .before .plain .ensures) ∙ not-false _ (c .if2 .left)
+
+passed-3 : (c : tie.Else3) → srgbAllowed (c .before .before .before .before .before .before .before .before .args .s) ≡ true
+passed-3 c = sym (c .before .srgb-allowed .ensures) ∙ not-false _ (c .if3 .left)
+
+in-range : (c : tie.Else3) → Ranged (c .before .before .before .before .before .before .before .before .args .s) (c .before .before .before .before .before .before .before .before .args .pixels)
+in-range c = ranged _ _ (passed-1 (c .before .before .before .before))
+
+module _ (c : tie.Else4) where
+  start : tie.Start
+  start = c .before .before .before .before .before .before .before .before .before .before
+
+  passed-4 : lengthsRight (start .args .s) (start .args .pixels) (start .args .base .now) (start .args .residual .now) (start .args .table .now) ≡ true
+  unfolding start
+  passed-4 = sym (c .before .lengths-right .ensures) ∙ not-false _ (c .if4 .left)
+
+  lent : Lending (start .args .s) (start .args .pixels) (start .args .base .now) (start .args .residual .now) (start .args .table .now)
+  unfolding start
+  lent = lending _ _ _ _ _ (in-range (c .before .before)) (passed-3 (c .before .before)) passed-4
+
+in-ranges-requires : tie.Need-in-ranges-requires
+in-ranges-requires c κs = search needs
+
+refuse-requires : tie.Need-refuse-requires
+refuse-requires c κs = search needs
+
+returns : tie.Need-returns
+returns c = tried-refused (c .refuse .ensures) (no-range _ _ _ _ _ _ (sym (c .before .before .in-ranges .ensures) ∙ not-true _ (c .before .if1 .taken)))
+
+plain-requires : tie.Need-plain-requires
+plain-requires c κs = search needs
+
+refuse-requires-2 : tie.Need-refuse-requires-2
+refuse-requires-2 c κs = search needs
+
+returns-2 : tie.Need-returns-2
+returns-2 c = tried-refused (c .refuse2 .ensures) (not-plain _ _ _ _ _ _ (passed-1 (c .before .before .before)) (sym (c .before .before .plain .ensures) ∙ not-true _ (c .before .if2 .taken)))
+
+srgb-allowed-requires : tie.Need-srgb-allowed-requires
+srgb-allowed-requires c κs = search needs
+
+refuse-requires-3 : tie.Need-refuse-requires-3
+refuse-requires-3 c κs = search needs
+
+returns-3 : tie.Need-returns-3
+returns-3 c = tried-refused (c .refuse3 .ensures) (no-srgb _ _ _ _ _ _ (passed-1 (c .before .before .before .before .before)) (passed-2 (c .before .before .before)) (sym (c .before .before .srgb-allowed .ensures) ∙ not-true _ (c .before .if3 .taken)))
+
+lengths-right-requires : tie.Need-lengths-right-requires
+lengths-right-requires c κs = in-range c
+
+refuse-requires-4 : tie.Need-refuse-requires-4
+refuse-requires-4 c κs = search needs
+
+returns-4 : tie.Need-returns-4
+returns-4 c = tried-refused (c .refuse4 .ensures) (no-lengths _ _ _ _ _ _ (passed-1 (c .before .before .before .before .before .before .before)) (passed-2 (c .before .before .before .before .before)) (passed-3 (c .before .before .before)) (sym (c .before .before .lengths-right .ensures) ∙ not-true _ (c .before .if4 .taken)))
+
+top-of-requires : tie.Need-top-of-requires
+top-of-requires c κs = in-range (c .before .before) .rb-small
+
+first-large-requires : tie.Need-first-large-requires
+first-large-requires c κs = search needs
+
+enum-known-large : tie.Need-enum-known-large
+enum-known-large c = search needs
+
+refuse-requires-5 : tie.Need-refuse-requires-5
+refuse-requires-5 c κs = search needs
+
+searched : (c : tie.After-first-large) → firstFail (length (start (c .before .before) .args .table .now)) (entryRight (top (start (c .before .before) .args .s .rb)) (start (c .before .before) .args .table .now)) ≡ c .first-large .result
+unfolding start
+searched c =
+    let a = start (c .before .before) .args in
+    ap (λ m. firstFail (length (a .table .now)) (entryRight m (a .table .now))) (sym (c .before .top-of .ensures .0)) ∙ sym (c .first-large .ensures)
+
+returns-5 : tie.Need-returns-5
+unfolding start
+returns-5 c =
+    let l = c .before .before .before .before in
+    tried-refused (c .refuse5 .ensures) (too-large _ _ _ _ _ _ (passed-1 (l .before .before .before .before .before .before .before .before)) (passed-2 (l .before .before .before .before .before .before)) (passed-3 (l .before .before .before .before)) (passed-4 (l .before .before)) _ (searched l ∙ c .before .before .large .given .1))
+
+enum-told : tie.Need-enum-told
+enum-told c = search needs
+
+cast-count : tie.Need-cast-count
+cast-count c = search needs
+
+mul-count : tie.Need-mul-count
+unfolding start
+mul-count c =
+    let r = in-range (c .before .before .before .before .before .before .before) in
+    let a = start (c .before .before .before .before .before) .args in
+    record { fits = omega (arith, count-small (a .s .components) (a .pixels) (r .components-right) (r .pixels-few)) }
+
+refuse-requires-6 : tie.Need-refuse-requires-6
+refuse-requires-6 c κs = search needs
+
+returns-6 : tie.Need-returns-6
+unfolding start
+returns-6 c =
+    let l = c .before .before .before .before .before in
+    tried-refused (c .refuse6 .ensures) (no-room _ _ _ _ _ _ (passed-1 (l .before .before .before .before .before .before .before .before)) (passed-2 (l .before .before .before .before .before .before)) (passed-3 (l .before .before .before .before)) (passed-4 (l .before .before)) (searched l ∙ c .before .before .before .enum-told .given .1) (c .before .if5 .taken))
+
+fill-one-requires : tie.Need-fill-one-requires
+unfolding start
+fill-one-requires c κs = (lent (c .before .before .before .before .before .before .before .before .before), (c .before .if6 .taken, c .before .before .before .if5 .left))
+
+same-length : tie.Need-same-length
+same-length c = search needs
+
+returns-7 : tie.Need-returns-7
+unfolding start
+returns-7 c =
+    let l = c .before .before .before .before .before .before .before .before .before .before in
+    let a = start (l .before .before) .args in
+    let long = picture-long (a .s) (a .pixels) (a .base .now) (a .residual .now) (a .table .now) (length (a .destination .now)) in
+    tried-given (ap Given (sym long)) (all-right _ _ _ _ _ _ (passed-1 (l .before .before .before .before .before .before .before .before)) (passed-2 (l .before .before .before .before .before .before)) (passed-3 (l .before .before .before .before)) (passed-4 (l .before .before)) (searched l ∙ c .before .before .before .before .before .before .before .before .enum-told .given .1) (c .before .before .before .before .before .before .if5 .left))
+    (c .before .before .fill-one .ensures ∙ ap (λ k. picture (a .s) (a .pixels) (a .base .now) (a .residual .now) (a .table .now) ++ drop k (a .destination .now)) (sym long))
+
+three : (c : tie.Else4) → (start c .args .s .components ≡ 1 → ⊥) → start c .args .s .components ≡ 3
+unfolding start
+three c h = ⊎-elim (λ e. absurd (h e)) (λ e. e) (one-or-three _ (in-range (c .before .before) .components-right))
+
+fill-three-requires : tie.Need-fill-three-requires
+unfolding start
+fill-three-requires c κs = (lent (c .before .before .before .before .before .before .before .before .before), (three (c .before .before .before .before .before .before .before .before .before) (c .before .if6 .left), c .before .before .before .if5 .left))
+
+same-length-2 : tie.Need-same-length-2
+same-length-2 c = search needs
+
+returns-8 : tie.Need-returns-8
+unfolding start
+returns-8 c =
+    let l = c .before .before .before .before .before .before .before .before .before .before in
+    let a = start (l .before .before) .args in
+    let long = picture-long (a .s) (a .pixels) (a .base .now) (a .residual .now) (a .table .now) (length (a .destination .now)) in
+    tried-given (ap Given (sym long)) (all-right _ _ _ _ _ _ (passed-1 (l .before .before .before .before .before .before .before .before)) (passed-2 (l .before .before .before .before .before .before)) (passed-3 (l .before .before .before .before)) (passed-4 (l .before .before)) (searched l ∙ c .before .before .before .before .before .before .before .before .enum-told .given .1) (c .before .before .before .before .before .before .if5 .left))
+    (c .before .before .fill-three .ensures ∙ ap (λ k. picture (a .s) (a .pixels) (a .base .now) (a .residual .now) (a .table .now) ++ drop k (a .destination .now)) (sym long))
+
+pub try-merge-spec : {M : Type 1} → statement M
+try-merge-spec =
+    tie.close
+    (tie.spec
+    in-ranges-requires
+    refuse-requires
+    returns
+    plain-requires
+    refuse-requires-2
+    returns-2
+    srgb-allowed-requires
+    refuse-requires-3
+    returns-3
+    lengths-right-requires
+    refuse-requires-4
+    returns-4
+    top-of-requires
+    first-large-requires
+    enum-known-large
+    refuse-requires-5
+    returns-5
+    enum-told
+    cast-count
+    mul-count
+    refuse-requires-6
+    returns-6
+    fill-one-requires
+    same-length
+    returns-7
+    fill-three-requires
+    same-length-2
+    returns-8)

@@ -1,0 +1,162 @@
+// The merge to 9 to 16 bits (01, "Merge"): a picture of one or three components, and the public call.
+ghost use mathlib.Core.Path.{_≡_};
+ghost use mathlib.Core.List.{_++_};
+ghost use Prim.Native.Nat.{_*_, _<_, _≤_};
+ghost use lib.ListN.{length, drop};
+ghost use Rattle.answers.specs.Verdict.{Meets, Tried};
+ghost use Rattle.pixel.specs.Pixels.{single, samplesOf};
+ghost use Rattle.settings.specs.Tests.{samples, Lending};
+ghost use Rattle.merge.specs.Picture.{mergedAt, picture, merge};
+
+// Pixel p of the result, for one component.
+fn one_at(
+    s: pixel::Setting,
+    pixels: usize,
+    base: &[i32],
+    residual: &[i32],
+    table: &[u16],
+    p: usize,
+) -> u16
+    requires { ⌜ Lending s pixels (now base) (now residual) (now table) ⌝ }
+    requires { ⌜ (s .components ≡ 1) × (p < pixels) ⌝ }
+    ensures { λ r. ⌜ single r ≡ mergedAt s pixels (now (base .entry)) (now (residual .entry)) (now (table .entry)) p ⌝ }
+{
+    let b = pixel::basis_one(s, table, base[p]);
+    let lent = s.residual;
+    match lent {
+        pixel::Residual::Absent => pixel::alone(s.rb, b),
+        pixel::Residual::Present => pixel::added(s.rb, b, pixel::scaled(s.rb, s.rr, residual[p])),
+    }
+}
+
+// Pixel p of the result, for three components.
+fn three_at(
+    s: pixel::Setting,
+    pixels: usize,
+    base: &[i32],
+    residual: &[i32],
+    table: &[u16],
+    p: usize,
+) -> pixel::Samples
+    requires { ⌜ Lending s pixels (now base) (now residual) (now table) ⌝ }
+    requires { ⌜ (s .components ≡ 3) × (p < pixels) ⌝ }
+    ensures { λ r. ⌜ samplesOf r ≡ mergedAt s pixels (now (base .entry)) (now (residual .entry)) (now (table .entry)) p ⌝ }
+{
+    let q = pixels + p;
+    let w = pixels + pixels + p;
+    let b = pixel::basis_three(s, table, base[p], base[q], base[w]);
+    let lent = s.residual;
+    match lent {
+        pixel::Residual::Absent => pixel::alone_three(s.rb, b),
+        pixel::Residual::Present => {
+            let r = pixel::residual_three(s, residual[p], residual[q], residual[w]);
+            pixel::added_three(s.rb, b, r)
+        }
+    }
+}
+
+// The picture of one component.
+fn fill_one(
+    s: pixel::Setting,
+    pixels: usize,
+    base: &[i32],
+    residual: &[i32],
+    table: &[u16],
+    destination: &mut [u16],
+)
+    requires { ⌜ Lending s pixels (now base) (now residual) (now table) ⌝ }
+    requires { ⌜ (s .components ≡ 1) × (samples s pixels ≤ length (now destination)) ⌝ }
+    ensures { λ r. ⌜ now (destination .exit) ≡ picture s pixels (now (base .entry)) (now (residual .entry)) (now (table .entry)) ++ drop (samples s pixels) (now (destination .entry)) ⌝ }
+{
+    let mut p = 0;
+    while p < pixels {
+        let v = one_at(s, pixels, base, residual, table, p);
+        destination[p] = v;
+        p += 1;
+    }
+}
+
+// The picture of three components, pixel by pixel.
+fn fill_three(
+    s: pixel::Setting,
+    pixels: usize,
+    base: &[i32],
+    residual: &[i32],
+    table: &[u16],
+    destination: &mut [u16],
+)
+    requires { ⌜ Lending s pixels (now base) (now residual) (now table) ⌝ }
+    requires { ⌜ (s .components ≡ 3) × (samples s pixels ≤ length (now destination)) ⌝ }
+    ensures { λ r. ⌜ now (destination .exit) ≡ picture s pixels (now (base .entry)) (now (residual .entry)) (now (table .entry)) ++ drop (samples s pixels) (now (destination .entry)) ⌝ }
+{
+    let mut p = 0;
+    while p < pixels {
+        let v = three_at(s, pixels, base, residual, table, p);
+        let q = pixels + p;
+        let w = pixels + pixels + p;
+        destination[p] = v.first;
+        destination[q] = v.second;
+        destination[w] = v.third;
+        p += 1;
+    }
+}
+
+// The refusals in their order, then the picture. A refusal may leave anything in the destination.
+fn try_merge(
+    s: pixel::Setting,
+    pixels: usize,
+    base: &[i32],
+    residual: &[i32],
+    table: &[u16],
+    destination: &mut [u16],
+) -> answers::Outcome
+    ensures { λ r. ⌜ Tried 0 (merge s pixels (now (base .entry)) (now (residual .entry)) (now (table .entry)) (length (now (destination .entry)))) (now (destination .entry)) (now (destination .exit)) r ⌝ }
+{
+    if !settings::in_ranges(s, pixels) {
+        return answers::refuse(20, 0);
+    }
+    if !settings::plain(s) {
+        return answers::refuse(20, 0);
+    }
+    if !settings::srgb_allowed(s) {
+        return answers::refuse(20, 0);
+    }
+    if !settings::lengths_right(s, pixels, base, residual, table) {
+        return answers::refuse(21, 0);
+    }
+    let large = settings::first_large(table, rounding::top_of(s.rb));
+    if let laws::Found::At(i) = large {
+        return answers::refuse(11, i);
+    }
+    let count = (s.components as usize) * pixels;
+    if destination.len() < count {
+        return answers::refuse(9, count);
+    }
+    if s.components == 1 {
+        fill_one(s, pixels, base, residual, table, destination);
+        return answers::Outcome::Given(count);
+    }
+    fill_three(s, pixels, base, residual, table, destination);
+    answers::Outcome::Given(count)
+}
+
+// The merge: a number and a place, and the picture or zeros in the destination.
+pub fn merge(
+    s: pixel::Setting,
+    pixels: usize,
+    base: &[i32],
+    residual: &[i32],
+    table: &[u16],
+    destination: &mut [u16],
+) -> answers::Answer
+    ensures { λ r. ⌜ Meets 0 (merge s pixels (now (base .entry)) (now (residual .entry)) (now (table .entry)) (length (now (destination .entry)))) (now (destination .entry)) (now (destination .exit)) r ⌝ }
+{
+    let tried = try_merge(s, pixels, base, residual, table, destination);
+    match tried {
+        answers::Outcome::Given(_) => answers::answer_of(tried),
+        answers::Outcome::Refused(_) => {
+            answers::clear_u16(destination);
+            answers::answer_of(tried)
+        }
+    }
+}

@@ -1,0 +1,34 @@
+-- `merge_vectors::weight` is safe. Assumes nothing.
+use borrow.Author.Needs.{needs}
+use native.Mathlib.Omega.{arith}
+use lib.IntN.{pos, _-ℤ_}
+use mir.Syntax.{w16, w32}
+use mir.Val.{SFits}
+use mir.Facts.{toZ-ofZ, toZ-pos, sfits-widen}
+use Rattle.merge_vectors.proofs.Laws.{less-half}
+use Rattle.merge_vectors.proofs.weight.Statement.{statement}
+use Rattle.merge_vectors.proofs.weight.Tie as tie
+
+fits : (c : tie.Else1) → SFits w16 (pos (c .before .args .w) -ℤ pos 32768)
+fits c = record { sfits = less-half 32768 (c .before .args .w) (omega arith) (omega arith) }
+
+wider : (c : tie.Else1) → SFits w32 (pos (c .before .args .w) -ℤ pos 32768)
+wider c = sfits-widen tt (fits c)
+
+returns : tie.Need-returns
+returns c = search needs
+
+cast-v : tie.Need-cast-v
+cast-v c = search needs
+
+sub-v : tie.Need-sub-v
+sub-v c = rw (toZ-pos w32 {n = c .before .args .w} (omega arith)) (wider c)
+
+cast-result : tie.Need-cast-result
+cast-result c = rw (toZ-pos w32 {n = c .before .args .w} (omega arith), toZ-ofZ (wider c)) (fits c)
+
+returns-2 : tie.Need-returns-2
+returns-2 c = search needs
+
+pub weight-spec : {M : Type 1} → statement M
+weight-spec = tie.close (tie.spec returns cast-v sub-v cast-result returns-2)

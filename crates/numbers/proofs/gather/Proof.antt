@@ -1,0 +1,85 @@
+-- `numbers::gather` meets its contract: what is in hand and what is still to come make the window.
+use Rattle.packets.proofs.Walking.{met, gone}
+use Rattle.numbers.proofs.Chosen.{Gathering, gather-start, gather-room, gather-here, gather-other, gather-end}
+use Rattle.numbers.proofs.Counts.{numbers-met, numbers-gone}
+use Rattle.numbers.specs.Numbers.{numbersFrom, within}
+use lib.ListN.{length}
+use Prim.Native.Nat.{_-_}
+use mathlib.Core.Path.{sym, _∙_}
+use native.Mathlib.Omega.{arith}
+use borrow.Author.Needs.{needs}
+use Rattle.numbers.proofs.gather.Statement.{statement}
+use Rattle.numbers.proofs.gather.Tie as tie
+
+abbrev Inv-loop : tie.InvT-loop
+Inv-loop file kind instance lo hi held₀ at₀ k₀ held at k = Gathering lo hi (numbersFrom file kind instance 2) (numbersFrom file kind instance at) held held₀ k
+
+abbrev μ-loop : tie.MeasureT-loop
+μ-loop file kind instance lo hi held₀ at₀ k₀ held at k = length file - at
+
+loop-holds : tie.Need-loop-holds Inv-loop μ-loop
+loop-holds c = gather-start _ _ _ _ (c .before .before .pre)
+
+next-mine-requires : tie.Need-next-mine-requires Inv-loop μ-loop
+next-mine-requires c κs = search needs
+
+enum-told : tie.Need-enum-told Inv-loop μ-loop
+enum-told c = search needs
+
+same-length : tie.Need-same-length Inv-loop μ-loop
+same-length c = c .before .before .before .loop .inv .size
+
+returns : tie.Need-returns Inv-loop μ-loop
+returns c = gather-end (c .before .before .before .loop .inv) (numbers-gone _ _ _ _ (gone _ _ _ _ (c .before .before .next-mine .ensures) (c .enum-told .given .1)))
+
+enum-known-head : tie.Need-enum-known-head Inv-loop μ-loop
+enum-known-head c = search needs
+
+cast-within : tie.Need-cast-within Inv-loop μ-loop
+cast-within c = search needs
+
+within-requires : tie.Need-within-requires Inv-loop μ-loop
+within-requires c κs = search needs
+
+mul-held : tie.Need-mul-held Inv-loop μ-loop
+mul-held c = search needs
+
+slice-write-held : tie.Need-slice-write-held Inv-loop μ-loop
+slice-write-held c = let m = met _ _ _ _ (c .before .before .before .before .before .next-mine .ensures) (c .before .before .before .head .given .1) in gather-room (c .before .before .before .before .before .before .loop .inv) (numbers-met m) (sym (c .before .within .ensures) ∙ c .if1 .taken)
+
+add-k : tie.Need-add-k Inv-loop μ-loop
+add-k c = search needs
+
+loop-less : tie.Need-loop-less Inv-loop μ-loop
+loop-less c = let m = met _ _ _ _ (c .before .before .before .before .before .next-mine .ensures) (c .before .before .before .head .given .1) in omega arith
+
+loop-again : tie.Need-loop-again Inv-loop μ-loop
+loop-again c = let m = met _ _ _ _ (c .before .before .before .before .before .next-mine .ensures) (c .before .before .before .head .given .1) in gather-here (c .before .before .before .before .before .before .loop .inv) (numbers-met m) (sym (c .before .within .ensures) ∙ c .if1 .taken)
+
+loop-less-2 : tie.Need-loop-less-2 Inv-loop μ-loop
+loop-less-2 c = let m = met _ _ _ _ (c .before .before .before .before .before .next-mine .ensures) (c .before .before .before .head .given .1) in omega arith
+
+loop-again-2 : tie.Need-loop-again-2 Inv-loop μ-loop
+loop-again-2 c = let m = met _ _ _ _ (c .before .before .before .before .before .next-mine .ensures) (c .before .before .before .head .given .1) in gather-other (c .before .before .before .before .before .before .loop .inv) (numbers-met m) (sym (c .before .within .ensures) ∙ c .if1 .left)
+
+pub gather-spec : {M : Type 1} → statement M
+gather-spec =
+    tie.close
+    (tie.spec
+    Inv-loop
+    μ-loop
+    loop-holds
+    next-mine-requires
+    enum-told
+    same-length
+    returns
+    enum-known-head
+    cast-within
+    within-requires
+    mul-held
+    slice-write-held
+    add-k
+    loop-less
+    loop-again
+    loop-less-2
+    loop-again-2)

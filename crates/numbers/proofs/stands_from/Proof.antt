@@ -1,0 +1,56 @@
+-- `numbers::stands_from` meets its contract: what was counted and what is left make the whole count.
+use Rattle.numbers.proofs.Chosen.{stands-turn}
+use Rattle.numbers.proofs.Counts.{count-end}
+use Rattle.numbers.specs.Numbers.{count}
+use lib.ListN.{length, drop, drop-of-length-le}
+use Prim.Native.Nat.{_+_, _-_, _≤_}
+use mathlib.Core.Path.{_≡_}
+use native.Mathlib.Omega.{arith}
+use borrow.Author.Needs.{needs}
+use Rattle.numbers.proofs.stands_from.Statement.{statement}
+use Rattle.numbers.proofs.stands_from.Tie as tie
+
+abbrev Inv-loop : tie.InvT-loop
+Inv-loop held from q n₀ i₀ n i = (n + count q (drop i held) ≡ count q (drop from held)) × (n ≤ length held) × (n + from ≤ i)
+
+abbrev μ-loop : tie.MeasureT-loop
+μ-loop held from q n₀ i₀ n i = length held - i
+
+loop-holds : tie.Need-loop-holds Inv-loop μ-loop
+loop-holds c = search needs
+
+mul-tick : tie.Need-mul-tick Inv-loop μ-loop
+mul-tick c = search needs
+
+shared-slice-read-tick : tie.Need-shared-slice-read-tick Inv-loop μ-loop
+shared-slice-read-tick c = search needs
+
+tick-requires : tie.Need-tick-requires Inv-loop μ-loop
+tick-requires c κs = search needs
+
+add-i : tie.Need-add-i Inv-loop μ-loop
+add-i c = search needs
+
+loop-less : tie.Need-loop-less Inv-loop μ-loop
+loop-less c = search needs
+
+loop-again : tie.Need-loop-again Inv-loop μ-loop
+loop-again c = (rw (c .tick .ensures .0) (stands-turn (c .before .before .before .before .before .args .held .now) (c .before .before .before .loop .n) (c .before .before .before .loop .i) (c .before .before .before .before .before .args .q) (c .before .before .before .loop .inv .0) (search needs)), omega arith, omega arith)
+
+returns : tie.Need-returns Inv-loop μ-loop
+returns c = count-end _ _ _ (c .before .loop .inv .0) (drop-of-length-le (c .before .before .before .args .held .now) {i = c .before .loop .i} (omega arith))
+
+pub stands-from-spec : {M : Type 1} → statement M
+stands-from-spec =
+    tie.close
+    (tie.spec
+    Inv-loop
+    μ-loop
+    loop-holds
+    mul-tick
+    shared-slice-read-tick
+    tick-requires
+    add-i
+    loop-less
+    loop-again
+    returns)

@@ -1,0 +1,198 @@
+-- Laws of a step and of the walk: each step goes forward, and the walk is its first step and the walk from there. Assumes nothing.
+use Prim.Native.Nat.{ℕ, zero, suc, _+_, _-_, _≤_, _<_}
+use mathlib.Core.Path.{_≡_, refl, ap, sym, subst, _∙_}
+use mathlib.Core.List.{List, [], _∷_}
+use mathlib.Core.Bool.{Bool, true, false, cond}
+use native.Mathlib.Omega.{arith}
+use lib.ListN.{length, getD, take, drop}
+use lib.Dec.{eqb, ltb, leb}
+use borrow.Author.Tests.{le-leb, ltb-false, leb-false}
+use Rattle.laws.proofs.Choices.{by-test}
+use Rattle.answers.specs.Verdict.{refusal}
+use Rattle.answers.specs.declared.Refusal.{Refusal}
+use Rattle.answers.specs.declared.Outcome.{Outcome}
+use Rattle.answers.specs.declared.Outcome.the-variants.{Given, Refused}
+use Rattle.packets.specs.declared.Head.{Head}
+use Rattle.packets.specs.declared.Step.{Step}
+use Rattle.packets.specs.declared.Step.the-variants.{End, Skip, Meet, Broken}
+use Rattle.packets.specs.declared.Next.{Next}
+use Rattle.packets.specs.declared.Next.the-variants.{Gone, Mine}
+use Rattle.packets.specs.Walk.{be16, headAt, ones, barred, tagged, packetAt, wholeAt, sizedAt, markedAt, stepAt, onward, stepsIn, stepsFrom, begins, walk, ending}
+use Rattle.packets.specs.Packets.{Packet, packet, packetsIn, packets, isMine, mine, mineFrom, Met, NextIs}
+use Rattle.packets.proofs.Runs.{ones-end}
+
+-- a step goes forward, and stays in the file
+abbrev pub Forward : List ℕ → ℕ → Step → Type 0
+Forward file at End = Unit
+Forward file at (Broken r) = Unit
+Forward file at (Skip next) = (at < next) × (next ≤ length file)
+Forward file at (Meet head start len next) = (at < start) × (start + len ≡ next) × (next ≤ length file)
+
+forward-packet : (file : List ℕ) (at m len : ℕ) → at < m → m + 1 + len ≤ length file → Forward file at (packetAt file at m len)
+unfolding packetAt
+forward-packet file at m len h e =
+    by-test (Forward file at) (ltb len 18) (λ t. tt) λ t.
+    by-test (Forward file at) (ltb (headAt file m .stated) 8) (λ u. tt) λ u.
+    omega (arith, ltb-false len 18 t)
+
+forward-whole : (file : List ℕ) (at m len : ℕ) → at < m → m + 1 + len ≤ length file → Forward file at (wholeAt file at m len)
+unfolding wholeAt
+forward-whole file at m len h e =
+    by-test (Forward file at) (eqb (getD file m 0) 235)
+    (λ t. by-test (Forward file at) (tagged file m len) (λ u. forward-packet file at m len h e) (λ u. omega arith))
+    (λ t. omega arith)
+
+forward-sized : (file : List ℕ) (at m : ℕ) → at < m → Forward file at (sizedAt file at m)
+unfolding sizedAt
+forward-sized file at m h =
+    by-test (Forward file at) (ltb (length file) (m + 3)) (λ t. tt) λ t.
+    by-test (Forward file at) (ltb (be16 file (m + 1)) 2) (λ u. tt) λ u.
+    by-test (Forward file at) (ltb (length file) (m + 1 + be16 file (m + 1))) (λ v. tt) λ v.
+    forward-whole file at m (be16 file (m + 1)) h (ltb-false _ _ v)
+
+forward : (file : List ℕ) (at : ℕ) → Forward file at (stepAt file at)
+unfolding stepAt markedAt
+forward file at =
+    let m : ℕ = at + ones (drop at file) in
+    by-test (Forward file at) (leb m at) (λ t. tt) λ t.
+    by-test (Forward file at) (leb (length file) m) (λ u. tt) λ u.
+    by-test (Forward file at) (eqb (getD file m 0) 218) (λ v. tt) λ v.
+    by-test (Forward file at) (barred (getD file m 0)) (λ w. tt) λ w.
+    forward-sized file at m (leb-false _ _ t)
+
+-- past the end there is no segment
+step-past : (file : List ℕ) (at : ℕ) → length file ≤ at → stepAt file at ≡ Broken (refusal 2 at)
+unfolding stepAt markedAt
+step-past file at h =
+    let e : at ≡ at + ones (drop at file) = ones-end file at h in
+    simp (le-leb (at + ones (drop at file)) at (omega arith))
+
+-- any number of steps that is enough gives the same walk
+same-onward : (file : List ℕ) (at : ℕ) (f g : ℕ → List Step) → ((n : ℕ) → at < n → f n ≡ g n) → (step : Step) → Forward file at step → onward step f ≡ onward step g
+same-onward file at f g h End w = refl
+same-onward file at f g h (Broken r) w = refl
+same-onward file at f g h (Skip next) w = h next (w .0)
+same-onward file at f g h (Meet head start len next) w = h next (omega arith)
+
+enough : (file : List ℕ) (k j at : ℕ) → length file ≤ at + k → length file ≤ at + j → stepsIn k file at ≡ stepsIn j file at
+unfolding stepsIn
+enough file zero zero at a b = refl
+enough file zero (suc j) at a b = rw (step-past file at (omega arith))
+enough file (suc k) zero at a b = rw (step-past file at (omega arith))
+enough file (suc k) (suc j) at a b =
+    ap (λ (r : List Step). stepAt file at ∷ r)
+    (same-onward file at (stepsIn k file) (stepsIn j file) (λ n h. enough file k j n (omega arith) (omega arith)) (stepAt file at) (forward file at))
+
+-- the walk is its first step, and the walk from there
+pub unroll : (file : List ℕ) (at : ℕ) → stepsFrom file at ≡ stepAt file at ∷ onward (stepAt file at) (stepsFrom file)
+unfolding stepsFrom stepsIn
+unroll file at =
+    enough file (length file - at) (suc (length file)) at (omega arith) (omega arith)
+    ∙ ap (λ (r : List Step). stepAt file at ∷ r)
+    (same-onward file at (stepsIn (length file) file) (stepsFrom file) (λ n h. enough file (length file) (length file - n) n (omega arith) (omega arith)) (stepAt file at) (forward file at))
+
+-- ---- by what stands at a position: where the next step is
+
+module _ (file : List ℕ) (at : ℕ) where
+  pub forward-skip : {n : ℕ} → stepAt file at ≡ Skip n → (at < n) × (n ≤ length file)
+  forward-skip e = subst (Forward file at) e (forward file at)
+
+  pub forward-meet : {head : Head} {start len n : ℕ} → stepAt file at ≡ Meet head start len n → (at < start) × (start + len ≡ n) × (n ≤ length file)
+  forward-meet e = subst (Forward file at) e (forward file at)
+
+  -- ---- how the walk ends
+
+  pub ending-end : stepAt file at ≡ End → ending (stepsFrom file at) ≡ Given 0
+  unfolding ending
+  ending-end e = ap ending (unroll file at) ∙ rw e
+
+  pub ending-broken : {r : Refusal} → stepAt file at ≡ Broken r → ending (stepsFrom file at) ≡ Refused r
+  unfolding ending
+  ending-broken e = ap ending (unroll file at) ∙ rw e
+
+  pub ending-skip : {n : ℕ} → stepAt file at ≡ Skip n → ending (stepsFrom file at) ≡ ending (stepsFrom file n)
+  unfolding ending
+  ending-skip e = ap ending (unroll file at) ∙ rw e
+
+  pub ending-meet : {head : Head} {start len n : ℕ} → stepAt file at ≡ Meet head start len n → ending (stepsFrom file at) ≡ ending (stepsFrom file n)
+  unfolding ending
+  ending-meet e = ap ending (unroll file at) ∙ rw e
+
+  -- ---- the packets from there on
+
+  pub packets-end : stepAt file at ≡ End → packetsIn file (stepsFrom file at) ≡ []
+  unfolding packetsIn
+  packets-end e = ap (packetsIn file) (unroll file at) ∙ rw e
+
+  pub packets-broken : {r : Refusal} → stepAt file at ≡ Broken r → packetsIn file (stepsFrom file at) ≡ []
+  unfolding packetsIn
+  packets-broken e = ap (packetsIn file) (unroll file at) ∙ rw e
+
+  pub packets-skip : {n : ℕ} → stepAt file at ≡ Skip n → packetsIn file (stepsFrom file at) ≡ packetsIn file (stepsFrom file n)
+  unfolding packetsIn
+  packets-skip e = ap (packetsIn file) (unroll file at) ∙ rw e
+
+  pub packets-meet : {head : Head} {start len n : ℕ} → stepAt file at ≡ Meet head start len n
+      → packetsIn file (stepsFrom file at) ≡ packet file head start len ∷ packetsIn file (stepsFrom file n)
+  unfolding packetsIn
+  packets-meet e = ap (packetsIn file) (unroll file at) ∙ rw e
+
+-- ---- the packets of a type and instance
+
+module _ (file : List ℕ) (kind instance at : ℕ) where
+  pub mine-end : stepAt file at ≡ End → mineFrom file kind instance at ≡ []
+  unfolding mineFrom mine
+  mine-end e = rw (packets-end file at e)
+
+  pub mine-broken : {r : Refusal} → stepAt file at ≡ Broken r → mineFrom file kind instance at ≡ []
+  unfolding mineFrom mine
+  mine-broken e = rw (packets-broken file at e)
+
+  pub mine-skip : {n : ℕ} → stepAt file at ≡ Skip n → mineFrom file kind instance at ≡ mineFrom file kind instance n
+  unfolding mineFrom
+  mine-skip e = rw (packets-skip file at e)
+
+  pub mine-other : {head : Head} {start len n : ℕ} → stepAt file at ≡ Meet head start len n → isMine kind instance head ≡ false
+      → mineFrom file kind instance at ≡ mineFrom file kind instance n
+  unfolding mineFrom mine
+  mine-other e w = rw (packets-meet file at e, w)
+
+  pub mine-met : {head : Head} {start len n : ℕ} → stepAt file at ≡ Meet head start len n → isMine kind instance head ≡ true
+      → mineFrom file kind instance at ≡ packet file head start len ∷ mineFrom file kind instance n
+  unfolding mineFrom mine
+  mine-met e w = rw (packets-meet file at e, w)
+
+  -- what `next_mine` ensures, once its answer is known
+  pub met : {r : Next} {head : Head} {start len next : ℕ} → NextIs file kind instance at r → r ≡ Mine head start len next → Met file kind instance at head start len next
+  met n e = subst (NextIs file kind instance at) e n
+
+  pub gone : {r : Next} → NextIs file kind instance at r → r ≡ Gone → mineFrom file kind instance at ≡ []
+  gone n e = subst (NextIs file kind instance at) e n
+
+-- ---- the whole file
+
+pub walk-begun : (file : List ℕ) → begins file ≡ true → walk file ≡ stepsFrom file 2
+unfolding walk
+walk-begun file h = rw h
+
+pub walk-not : (file : List ℕ) → begins file ≡ false → ending (walk file) ≡ Refused (refusal 1 0)
+unfolding walk ending
+walk-not file h = rw h
+
+-- a walk that ends well gives the place 0
+pub ended : (steps : List Step) (n : ℕ) → ending steps ≡ Given n → n ≡ 0
+unfolding ending
+ended [] n e = cc
+ended (End ∷ r) n e = cc
+ended (Broken f ∷ r) n e = let z : _≡_ {A = ℕ} 0 1 = cc in let y : ⊥ = omega arith in absurd y
+ended (Skip next ∷ r) n e = ended r n e
+ended (Meet head start len next ∷ r) n e = ended r n e
+
+-- of a walk that ends well, the packets are those from position 2 on
+pub mine-all : (file : List ℕ) (kind instance count : ℕ) → ending (walk file) ≡ Given count → mine kind instance (packets file) ≡ mineFrom file kind instance 2
+unfolding mineFrom packets
+mine-all file kind instance count h = go (begins file) refl
+  where
+    go : (b : Bool) → begins file ≡ b → mine kind instance (packetsIn file (walk file)) ≡ mine kind instance (packetsIn file (stepsFrom file 2))
+    go true e = ap (λ (steps : List Step). mine kind instance (packetsIn file steps)) (walk-begun file e)
+    go false e = let f = sym (walk-not file e) ∙ h in let z : _≡_ {A = ℕ} 0 1 = cc in let y : ⊥ = omega arith in absurd y

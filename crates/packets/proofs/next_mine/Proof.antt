@@ -1,0 +1,88 @@
+-- `packets::next_mine` meets its contract: the packets from here on are those from the start on.
+use Rattle.packets.proofs.Walking.{forward-skip, forward-meet, mine-end, mine-broken, mine-skip, mine-other, mine-met}
+use Rattle.packets.specs.Packets.{mineFrom}
+use lib.ListN.{length}
+use Prim.Native.Nat.{_-_, _≤_}
+use mathlib.Core.Path.{_≡_, sym, _∙_}
+use native.Mathlib.Omega.{arith}
+use borrow.Author.Needs.{needs}
+use Rattle.packets.proofs.next_mine.Statement.{statement}
+use Rattle.packets.proofs.next_mine.Tie as tie
+
+abbrev Inv-loop : tie.InvT-loop
+Inv-loop file kind instance from at₀ at = (mineFrom file kind instance at ≡ mineFrom file kind instance from) × (from ≤ at)
+
+abbrev μ-loop : tie.MeasureT-loop
+μ-loop file kind instance from at₀ at = length file - at
+
+loop-holds : tie.Need-loop-holds Inv-loop μ-loop
+loop-holds c = search needs
+
+step-at-requires : tie.Need-step-at-requires Inv-loop μ-loop
+step-at-requires c κs = search needs
+
+enum-told : tie.Need-enum-told Inv-loop μ-loop
+enum-told c = search needs
+
+returns : tie.Need-returns Inv-loop μ-loop
+returns c = sym (c .before .before .before .loop .inv .0) ∙ mine-end _ _ _ _ (sym (c .before .before .step-at .ensures) ∙ c .enum-told .given .1)
+
+enum-told-2 : tie.Need-enum-told-2 Inv-loop μ-loop
+enum-told-2 c = search needs
+
+returns-2 : tie.Need-returns-2 Inv-loop μ-loop
+returns-2 c = sym (c .before .before .before .loop .inv .0) ∙ mine-broken _ _ _ _ (sym (c .before .before .step-at .ensures) ∙ c .enum-told2 .given .1)
+
+enum-known-next : tie.Need-enum-known-next Inv-loop μ-loop
+enum-known-next c = search needs
+
+loop-less : tie.Need-loop-less Inv-loop μ-loop
+loop-less c = omega (arith, forward-skip _ _ (sym (c .before .before .before .step-at .ensures) ∙ c .before .next .given .1))
+
+loop-again : tie.Need-loop-again Inv-loop μ-loop
+loop-again c = let e = sym (c .before .before .before .step-at .ensures) ∙ c .before .next .given .1 in
+    (sym (mine-skip _ _ _ _ e) ∙ c .before .before .before .before .loop .inv .0, omega (arith, forward-skip _ _ e))
+
+enum-known-head : tie.Need-enum-known-head Inv-loop μ-loop
+enum-known-head c = search needs
+
+is-mine-requires : tie.Need-is-mine-requires Inv-loop μ-loop
+is-mine-requires c κs = search needs
+
+returns-3 : tie.Need-returns-3 Inv-loop μ-loop
+returns-3 c = let e = sym (c .before .before .before .before .before .step-at .ensures) ∙ c .before .before .before .head .given .1 in
+    let f = forward-meet _ _ e in
+    record {
+      list = sym (c .before .before .before .before .before .before .loop .inv .0) ∙ mine-met _ _ _ _ e (sym (c .before .is-mine .ensures) ∙ c .if1 .taken);
+      after = omega arith;
+      reach = f .1;
+      inside = f .2;
+    }
+
+loop-less-2 : tie.Need-loop-less-2 Inv-loop μ-loop
+loop-less-2 c = omega (arith, forward-meet _ _ (sym (c .before .before .before .before .before .step-at .ensures) ∙ c .before .before .before .head .given .1))
+
+loop-again-2 : tie.Need-loop-again-2 Inv-loop μ-loop
+loop-again-2 c = let e = sym (c .before .before .before .before .before .step-at .ensures) ∙ c .before .before .before .head .given .1 in
+    (sym (mine-other _ _ _ _ e (sym (c .before .is-mine .ensures) ∙ c .if1 .left)) ∙ c .before .before .before .before .before .before .loop .inv .0, omega (arith, forward-meet _ _ e))
+
+pub next-mine-spec : {M : Type 1} → statement M
+next-mine-spec =
+    tie.close
+    (tie.spec
+    Inv-loop
+    μ-loop
+    loop-holds
+    step-at-requires
+    enum-told
+    returns
+    enum-told-2
+    returns-2
+    enum-known-next
+    loop-less
+    loop-again
+    enum-known-head
+    is-mine-requires
+    returns-3
+    loop-less-2
+    loop-again-2)

@@ -1,0 +1,299 @@
+// The walk over a file's segments, and one packet (01, "Packets and boxes").
+use answers::Outcome;
+use answers::Refusal;
+ghost use mathlib.Core.Path.{_≡_};
+ghost use mathlib.Core.Bool.{false, cond};
+ghost use Prim.Native.Nat.{_+_, _≤_, _<_};
+ghost use lib.ListN.{length, drop};
+ghost use lib.Dec.{eqb};
+ghost use Rattle.packets.specs.Walk.{ones, headAt, packetAt, wholeAt, sizedAt, stepAt, stepsFrom, walk, ending};
+ghost use Rattle.packets.specs.Walk.{be16 as Walk·be16, be32 as Walk·be32, barred as Walk·barred, tagged as Walk·tagged, begins as Walk·begins};
+ghost use Rattle.packets.specs.Packets.{isMine, NextIs};
+ghost use Rattle.answers.specs.Verdict.{refusal};
+
+// What the head of a packet states. Of the stated length of its box, `heading` bytes are the head of the box.
+pub struct Head {
+    pub instance: u16,
+    pub number: u32,
+    pub stated: u64,
+    pub heading: u64,
+    pub kind: u32,
+}
+
+// What stands at a position of the file.
+pub enum Step {
+    // The marker DA: the walk ends well.
+    End,
+    // A segment that is no packet, and where the next one begins.
+    Skip(usize),
+    // A packet, with where its payload stands and where the next segment begins.
+    Meet {
+        head: Head,
+        start: usize,
+        len: usize,
+        next: usize,
+    },
+    Broken(Refusal),
+}
+
+// The next packet of a type and instance, with where its payload stands and where to look on.
+pub enum Next {
+    Gone,
+    Mine {
+        head: Head,
+        start: usize,
+        len: usize,
+        next: usize,
+    },
+}
+
+fn wide(x: u8) -> u16
+    ensures { λ r. ⌜ (r ≡ x) × (r < 256) ⌝ }
+{
+    x as u16
+}
+
+fn be16(file: &[u8], i: usize) -> u16
+    requires { ⌜ i + 1 < length (now file) ⌝ }
+    ensures { λ r. ⌜ r ≡ Walk·be16 (now (file .entry)) i ⌝ }
+{
+    wide(file[i]) * 256 + wide(file[i + 1])
+}
+
+fn be32(file: &[u8], i: usize) -> u32
+    requires { ⌜ i + 3 < length (now file) ⌝ }
+    ensures { λ r. ⌜ r ≡ Walk·be32 (now (file .entry)) i ⌝ }
+{
+    (be16(file, i) as u32) * 65536 + (be16(file, i + 2) as u32)
+}
+
+fn barred(b: u8) -> bool
+    ensures { λ r. ⌜ r ≡ Walk·barred b ⌝ }
+{
+    if b < 2 {
+        return true;
+    }
+    if b < 208 {
+        return false;
+    }
+    b <= 217
+}
+
+// Where the run of FF that begins at `at` ends.
+fn past_ones(file: &[u8], at: usize) -> usize
+    ensures { λ r. ⌜ r ≡ at + ones (drop at (now (file .entry))) ⌝ }
+{
+    let mut m = at;
+    while m < file.len() {
+        if file[m] != 255 {
+            return m;
+        }
+        m += 1;
+    }
+    m
+}
+
+// Whether the contents behind the marker at m begin 4A 50.
+fn tagged(file: &[u8], m: usize, len: usize) -> bool
+    requires { ⌜ m + 1 + len ≤ length (now file) ⌝ }
+    ensures { λ r. ⌜ r ≡ Walk·tagged (now (file .entry)) m len ⌝ }
+{
+    if len < 4 {
+        return false;
+    }
+    if file[m + 3] == 74 {
+        file[m + 4] == 80
+    } else {
+        false
+    }
+}
+
+// What the head of the packet behind the marker at m states.
+fn head_at(file: &[u8], m: usize) -> Head
+    requires { ⌜ m + 18 < length (now file) ⌝ }
+    ensures { λ r. ⌜ r ≡ headAt (now (file .entry)) m ⌝ }
+{
+    Head {
+        instance: be16(file, m + 5),
+        number: be32(file, m + 7),
+        stated: be32(file, m + 11) as u64,
+        heading: 8,
+        kind: be32(file, m + 15),
+    }
+}
+
+fn broken(number: u32, place: usize) -> Step
+    ensures { λ r. ⌜ r ≡ Step.Broken (refusal number place) ⌝ }
+{
+    Step::Broken(Refusal { number, place })
+}
+
+fn packet_at(file: &[u8], at: usize, m: usize, len: usize) -> Step
+    requires { ⌜ m + 1 + len ≤ length (now file) ⌝ }
+    ensures { λ r. ⌜ r ≡ packetAt (now (file .entry)) at m len ⌝ }
+{
+    if len < 18 {
+        return broken(3, at);
+    }
+    let head = head_at(file, m);
+    if head.stated < 8 {
+        return broken(3, at);
+    }
+    Step::Meet {
+        head,
+        start: m + 19,
+        len: len - 18,
+        next: m + 1 + len,
+    }
+}
+
+fn whole_at(file: &[u8], at: usize, m: usize, len: usize) -> Step
+    requires { ⌜ m + 1 + len ≤ length (now file) ⌝ }
+    ensures { λ r. ⌜ r ≡ wholeAt (now (file .entry)) at m len ⌝ }
+{
+    if file[m] != 235 {
+        return Step::Skip(m + 1 + len);
+    }
+    if tagged(file, m, len) {
+        return packet_at(file, at, m, len);
+    }
+    Step::Skip(m + 1 + len)
+}
+
+fn sized_at(file: &[u8], at: usize, m: usize) -> Step
+    requires { ⌜ m < length (now file) ⌝ }
+    ensures { λ r. ⌜ r ≡ sizedAt (now (file .entry)) at m ⌝ }
+{
+    if file.len() < m + 3 {
+        return broken(2, at);
+    }
+    let len = be16(file, m + 1) as usize;
+    if len < 2 {
+        return broken(2, at);
+    }
+    if file.len() < m + 1 + len {
+        return broken(2, at);
+    }
+    whole_at(file, at, m, len)
+}
+
+// What stands at a position of the file.
+pub fn step_at(file: &[u8], at: usize) -> Step
+    ensures { λ r. ⌜ r ≡ stepAt (now (file .entry)) at ⌝ }
+{
+    let m = past_ones(file, at);
+    if m <= at {
+        return broken(2, at);
+    }
+    if file.len() <= m {
+        return broken(2, at);
+    }
+    let b = file[m];
+    if b == 218 {
+        return Step::End;
+    }
+    if barred(b) {
+        return broken(2, at);
+    }
+    sized_at(file, at, m)
+}
+
+fn walk_end(file: &[u8], from: usize) -> Outcome
+    ensures { λ r. ⌜ r ≡ ending (stepsFrom (now (file .entry)) from) ⌝ }
+{
+    let mut at = from;
+    loop {
+        match step_at(file, at) {
+            Step::End => {
+                return Outcome::Given(0);
+            }
+            Step::Broken(r) => {
+                return Outcome::Refused(r);
+            }
+            Step::Skip(next) => {
+                at = next;
+            }
+            Step::Meet {
+                head: _,
+                start: _,
+                len: _,
+                next,
+            } => {
+                at = next;
+            }
+        }
+    }
+}
+
+fn begins(file: &[u8]) -> bool
+    ensures { λ r. ⌜ r ≡ Walk·begins (now (file .entry)) ⌝ }
+{
+    if file.len() < 2 {
+        return false;
+    }
+    if file[0] == 255 {
+        file[1] == 216
+    } else {
+        false
+    }
+}
+
+// How the walk over a file ends.
+pub fn walk_all(file: &[u8]) -> Outcome
+    ensures { λ r. ⌜ r ≡ ending (walk (now (file .entry))) ⌝ }
+{
+    if begins(file) {
+        walk_end(file, 2)
+    } else {
+        Outcome::Refused(Refusal {
+            number: 1,
+            place: 0,
+        })
+    }
+}
+
+fn is_mine(kind: u32, instance: u16, head: Head) -> bool
+    ensures { λ r. ⌜ r ≡ isMine kind instance head ⌝ }
+{
+    if head.kind == kind {
+        head.instance == instance
+    } else {
+        false
+    }
+}
+
+// The next packet of a type and instance, from a position on.
+pub fn next_mine(file: &[u8], kind: u32, instance: u16, from: usize) -> Next
+    ensures { λ r. ⌜ NextIs (now (file .entry)) kind instance from r ⌝ }
+{
+    let mut at = from;
+    loop {
+        match step_at(file, at) {
+            Step::End => {
+                return Next::Gone;
+            }
+            Step::Broken(_) => {
+                return Next::Gone;
+            }
+            Step::Skip(next) => {
+                at = next;
+            }
+            Step::Meet {
+                head,
+                start,
+                len,
+                next,
+            } => {
+                if is_mine(kind, instance, head) {
+                    return Next::Mine {
+                        head,
+                        start,
+                        len,
+                        next,
+                    };
+                }
+                at = next;
+            }
+        }
+    }
+}

@@ -1,0 +1,23 @@
+-- `pixel::alone` meets its contract. Assumes nothing.
+use borrow.Author.Needs.{needs}
+use mathlib.Core.Path.{ap, _∙_}
+use mir.Facts.{toZ-ofZ}
+use Rattle.rounding.specs.Near.{clip}
+use Rattle.pixel.specs.Steps.{alone}
+use Rattle.pixel.proofs.alone.Statement.{statement}
+use Rattle.pixel.proofs.alone.Tie as tie
+
+top-of-requires : tie.Need-top-of-requires
+top-of-requires c κs = search needs
+
+clip-requires : tie.Need-clip-requires
+clip-requires c κs = search needs
+
+returns : tie.Need-returns
+unfolding alone
+returns c =
+    let s = c .before .before in
+    c .clip .ensures ∙ ap (λ z. clip z (c .before .top-of .result)) (toZ-ofZ (s .fits .b)) ∙ ap (clip (s .args .b)) (c .before .top-of .ensures .0)
+
+pub alone-spec : {M : Type 1} → statement M
+alone-spec = tie.close (tie.spec top-of-requires clip-requires returns)

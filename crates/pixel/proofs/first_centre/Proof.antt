@@ -1,0 +1,13 @@
+-- `pixel::first_centre` meets its contract. Assumes nothing.
+use mathlib.Core.Path.{refl}
+use native.Mathlib.Omega.{arith}
+use Rattle.pixel.specs.Steps.{firstCentre}
+use Rattle.pixel.proofs.first_centre.Statement.{statement}
+use Rattle.pixel.proofs.first_centre.Tie as tie
+
+returns : tie.Need-returns
+unfolding firstCentre
+returns c = (refl, omega arith)
+
+pub first-centre-spec : {M : Type 1} → statement M
+first-centre-spec = tie.close (tie.spec returns)

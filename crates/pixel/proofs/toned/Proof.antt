@@ -1,0 +1,37 @@
+-- `pixel::toned` meets its contract. Assumes nothing.
+use borrow.Author.Needs.{needs}
+use mathlib.Core.Path.{_≡_, _∙_, ap}
+use native.Mathlib.Omega.{arith}
+use mir.Syntax.{w64}
+use mir.Facts.{toZ-ofZ}
+use Rattle.laws.proofs.Integers.{back}
+use Rattle.rounding.specs.Near.{clip, top}
+use Rattle.rounding.proofs.Laws.{clip-small}
+use Rattle.curves.specs.Curves.{curved}
+use Rattle.pixel.proofs.toned.Statement.{statement}
+use Rattle.pixel.proofs.toned.Tie as tie
+
+top-of-requires : tie.Need-top-of-requires
+top-of-requires c κs = search needs
+
+clip-requires : tie.Need-clip-requires
+clip-requires c κs = search needs
+
+is-clip : (c : tie.After-clip) → c .clip .result ≡ clip (c .before .before .before .args .v) (top (c .before .before .before .args .s .rh))
+is-clip c =
+    let s = c .before .before .before in
+    c .clip .ensures ∙ ap (λ z. clip z (c .before .top-of .result)) (toZ-ofZ (s .fits .v)) ∙ ap (clip (s .args .v)) (c .before .top-of .ensures .0)
+
+curved-requires : tie.Need-curved-requires
+curved-requires c κs =
+    let s = c .before .before .before in
+    ((s .pre .rb-small, (s .pre .rh-small, omega (arith, is-clip c, clip-small (s .args .v) (top (s .args .s .rh))))), s .pre .lent)
+
+returns : tie.Need-returns
+returns c =
+    let r = c .curved in
+    let s = c .before .before .before .before .args in
+    rw (back w64 (r .result) (r .ok)) (r .ensures .0 ∙ ap (curved (s .s .curve) (s .s .rb) (s .s .rh) (s .table .now)) (is-clip (c .before)), r .ensures .1)
+
+pub toned-spec : {M : Type 1} → statement M
+toned-spec = tie.close (tie.spec top-of-requires clip-requires curved-requires returns)

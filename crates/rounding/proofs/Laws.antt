@@ -1,0 +1,141 @@
+-- Laws of rounding, clipping and weighing, for any numbers. Assumes nothing.
+use borrow.Author.Tests.{ltb-true, ltb-false, le-ltb}
+use mathlib.Core.Path.{_≡_, refl, sym, ap, subst, _∙_}
+use mathlib.Core.Bool.{Bool, true, false}
+use mathlib.Core.List.{List, [], _∷_}
+use Prim.Native.Nat.{ℕ, _+_, _*_, _/_, _^_, _≤_, _<_, zero-le}
+use native.Mathlib.Nat.{mul-le-mul-left, lt-of-mul-lt-mul-left}
+use native.Mathlib.Omega.{arith}
+use lib.Dec.{T, leb, leb→le}
+use lib.ListN.{getD}
+use lib.IntN.{ℤ, pos, negsuc, negℤ, natAbs, _+ℤ_, _-ℤ_, _*ℤ_}
+use lib.Signed.{ltZ, nonNeg, shrZ}
+use Rattle.laws.proofs.Integers.{up, dn, sum, eqZ, pos-up, pos-dn, abs, one, abs-sum, abs-neg, abs-prod-le, ≤-to, <-to, ≤-of, <-of, floor-low, floor-high, floor-abs}
+use Rattle.laws.proofs.Floors.{times, floor-is, floor-scale}
+use Rattle.laws.specs.Index.{tab}
+use Rattle.laws.proofs.Lists.{getD-tab, each}
+use Rattle.rounding.specs.Near.{nearest, clip, row}
+
+-- ---- nearest
+
+-- half of m is added, and the quotient taken downward
+pub nearest-floor : (t : ℤ) (m : ℕ) → 0 < m → nearest t m ≡ shrZ (t +ℤ pos (m / 2)) m
+unfolding nearest
+nearest-floor t m h =
+    let q = shrZ (t +ℤ pos (m / 2)) m in
+    let z = t +ℤ pos (m / 2) in
+    let w = pos 2 *ℤ t +ℤ pos m in
+    let low = ≤-to (floor-low z m h) in
+    let high = <-to (floor-high z m h) in
+    let e = sum t (pos (m / 2)) in
+    let f = sum (pos 2 *ℤ t) (pos m) in
+    floor-is w q (2 * m) (omega arith)
+    (≤-of _ _ (omega (arith, times m q, times (2 * m) q, times 2 t, pos-up (m / 2), pos-dn (m / 2), pos-up m, pos-dn m)))
+    (<-of _ _ (omega (arith, times m (q +ℤ pos 1), times (2 * m) (q +ℤ pos 1), times 2 t, pos-up (m / 2), pos-dn (m / 2), pos-up m, pos-dn m)))
+
+-- a factor of both sides goes out
+pub nearest-scale : (k : ℕ) (t : ℤ) (m : ℕ) → 0 < k → 0 < m → nearest (pos k *ℤ t) (k * m) ≡ nearest t m
+unfolding nearest
+nearest-scale k t m hk hm =
+    ap (λ (z : ℤ). shrZ z (2 * (k * m))) gathered ∙ ap (shrZ (pos k *ℤ (pos 2 *ℤ t +ℤ pos m))) twice ∙ floor-scale k (pos 2 *ℤ t +ℤ pos m) (2 * m) hk (omega arith)
+  where
+    twice : 2 * (k * m) ≡ k * (2 * m)
+    twice = omega arith
+
+    gathered : pos 2 *ℤ (pos k *ℤ t) +ℤ pos (k * m) ≡ pos k *ℤ (pos 2 *ℤ t +ℤ pos m)
+    gathered = eqZ _ _
+        (omega (
+          arith,
+          sum (pos 2 *ℤ (pos k *ℤ t)) (pos (k * m)),
+          times 2 (pos k *ℤ t),
+          times k t,
+          times k (pos 2 *ℤ t +ℤ pos m),
+          ap (λ n. k * n) (sum (pos 2 *ℤ t) (pos m)),
+          ap (λ n. k * n) (times 2 t),
+          ap (λ n. k * n) (pos-up m),
+          ap (λ n. k * n) (pos-dn m),
+          pos-up (k * m),
+          pos-dn (k * m),
+        ))
+
+pub nearest-small : (t : ℤ) (m : ℕ) → 0 < m → natAbs (nearest t m) ≤ natAbs t + 1
+nearest-small t m h =
+    subst (λ (z : ℤ). natAbs z ≤ natAbs t + 1) (sym (nearest-floor t m h))
+    (floor-abs (t +ℤ pos (m / 2)) m (natAbs t + 1) h (omega (arith, abs-sum t (pos (m / 2)), mul-le-mul-left (natAbs t) h)))
+
+-- a t between -b m and b m is b at most
+pub nearest-within : (t : ℤ) (m b : ℕ) → 0 < m → natAbs t ≤ b * m → natAbs (nearest t m) ≤ b
+unfolding nearest
+nearest-within t m b h g =
+    let q = nearest t m in
+    let w = pos 2 *ℤ t +ℤ pos m in
+    let low = ≤-to (floor-low w (2 * m) (omega arith)) in
+    let high = <-to (floor-high w (2 * m) (omega arith)) in
+    let f = sum (pos 2 *ℤ t) (pos m) in
+    let above : m * (2 * up q) < m * (2 * b + 2 + 2 * dn q) = omega (arith, times (2 * m) q, times 2 t, pos-up m, pos-dn m, abs t) in
+    let below : m * (2 * dn (q +ℤ pos 1)) < m * (2 * b + 2 * up (q +ℤ pos 1)) = omega (arith, times (2 * m) (q +ℤ pos 1), times 2 t, pos-up m, pos-dn m, abs t) in
+    omega (arith, lt-of-mul-lt-mul-left m above, lt-of-mul-lt-mul-left m below, sum q (pos 1), pos-up 1, pos-dn 1, abs q, one q, one (q +ℤ pos 1))
+
+-- ---- clip
+
+true-false {ℓ} : {X : Type ℓ} {t : Bool} → t ≡ true → t ≡ false → X
+true-false p q = absurd (subst T (sym p ∙ q) tt)
+
+pub clip-low : (v : ℤ) (top : ℕ) → ltZ v (pos 0) ≡ true → 0 ≡ clip v top
+unfolding clip
+clip-low (pos n) top e = true-false e (le-ltb n 0 zero-le)
+clip-low (negsuc n) top e = refl
+
+pub clip-high : (v : ℤ) (top : ℕ) → ltZ (pos top) v ≡ true → top ≡ clip v top
+unfolding clip
+clip-high (pos n) top e = omega (arith, ltb-true top n e)
+clip-high (negsuc n) top e = true-false e refl
+
+pub record Within (v : ℤ) (top : ℕ) : Type 0 where
+  pub positive : T (nonNeg v)
+  pub small : natAbs v ≤ top
+  pub same : natAbs v ≡ clip v top
+
+pub clip-in : (v : ℤ) (top : ℕ) → ltZ v (pos 0) ≡ false → ltZ (pos top) v ≡ false → Within v top
+unfolding clip
+clip-in (pos n) top e f = let h = ltb-false top n f in record { positive = tt; small = h; same = omega arith }
+clip-in (negsuc n) top e f = true-false refl e
+
+pub clip-small : (v : ℤ) (top : ℕ) → clip v top ≤ top
+unfolding clip
+clip-small (pos n) top = omega arith
+clip-small (negsuc n) top = omega arith
+
+-- ---- row
+
+-- the magnitudes of three products, and of their sums, for weights to u and numbers to v
+module _ (u v : ℕ) (k l m a b c : ℤ) (hk : natAbs k ≤ u) (hl : natAbs l ≤ u) (hm : natAbs m ≤ u) (ha : natAbs a ≤ v) (hb : natAbs b ≤ v) (hc : natAbs c ≤ v) where
+  pub pair-small : natAbs (k *ℤ a +ℤ l *ℤ b) ≤ 2 * (u * v)
+  pair-small = omega (arith, abs-sum (k *ℤ a) (l *ℤ b), abs-prod-le k a u v hk ha, abs-prod-le l b u v hl hb)
+
+  pub row-small : natAbs (row k l m a b c) ≤ 3 * (u * v)
+  unfolding row
+  row-small = omega (arith, abs-sum (k *ℤ a +ℤ l *ℤ b) (m *ℤ c), pair-small, abs-prod-le m c u v hm hc)
+
+-- ---- powers of two
+
+abbrev pub powers : List ℕ
+powers = 1 ∷ 2 ∷ 4 ∷ 8 ∷ 16 ∷ 32 ∷ 64 ∷ 128 ∷ 256 ∷ 512 ∷ 1024 ∷ 2048 ∷ 4096 ∷ 8192 ∷ 16384 ∷ 32768 ∷ 65536 ∷ []
+
+pub power-at : (k : ℕ) → k ≤ 16 → getD powers k 0 ≡ 2 ^ k
+unfolding tab
+power-at k h = getD-tab 17 (λ i. 2 ^ i) 0 k (omega arith)
+
+pub top-above : (r : ℕ) → r ≤ 8 → 256 ≤ 2 ^ (8 + r)
+top-above r h = leb→le 256 (2 ^ (8 + r)) (each 9 (λ k. leb 256 (2 ^ (8 + k))) tt r (omega arith))
+
+pub top-below : (r : ℕ) → r ≤ 8 → 2 ^ (8 + r) ≤ 65536
+top-below r h = leb→le (2 ^ (8 + r)) 65536 (each 9 (λ k. leb (2 ^ (8 + k)) 65536) tt r (omega arith))
+
+pub centre-below : (r : ℕ) → r ≤ 8 → 2 ^ (7 + r) ≤ 32768
+centre-below r h = leb→le (2 ^ (7 + r)) 32768 (each 9 (λ k. leb (2 ^ (7 + k)) 32768) tt r (omega arith))
+
+-- ---- differences
+
+pub less-small : (x centre : ℤ) → natAbs x ≤ 549755813888 → natAbs centre ≤ 32768 → natAbs (x -ℤ centre) ≤ 1099511627776
+less-small x centre h g = omega (arith, abs-sum x (negℤ centre), abs-neg centre)

@@ -1,0 +1,17 @@
+-- `rounding::power` meets its contract: the table holds the powers. Assumes nothing.
+use borrow.Author.Needs.{needs}
+use Rattle.rounding.proofs.Laws.{power-at}
+use Rattle.rounding.proofs.power.Statement.{statement}
+use Rattle.rounding.proofs.power.Tie as tie
+
+mul-result : tie.Need-mul-result
+mul-result c = search needs
+
+array-read-result : tie.Need-array-read-result
+array-read-result c = search needs
+
+returns : tie.Need-returns
+returns c = power-at (c .args .k) (c .pre)
+
+pub power-spec : {M : Type 1} → statement M
+power-spec = tie.close (tie.spec mul-result array-read-result returns)

@@ -1,0 +1,72 @@
+-- What the tests behind 20 and 21 say when they are passed. Assumes nothing.
+use borrow.Author.Tests.{leb-true, eqb-true}
+use mathlib.Core.Path.{_≡_, refl, sym, ap, _∙_}
+use mathlib.Core.Logic.{_⊎_, inl, inr}
+use mathlib.Core.Bool.{Bool, true, false, cond}
+use mathlib.Core.List.{List, [], _∷_}
+use Prim.Native.Nat.{ℕ, _*_, _≤_}
+use native.Mathlib.Nat.{mul-le-mul}
+use native.Mathlib.Omega.{arith}
+use lib.Dec.{eqb, leb}
+use lib.IntN.{ℤ}
+use lib.ListN.{length}
+use Rattle.laws.specs.Index.{every}
+use Rattle.laws.proofs.Lists.{every-first, every-rest}
+use Rattle.curves.specs.declared.Curve.{Curve}
+use Rattle.curves.specs.declared.Curve.the-variants.{Srgb}
+use Rattle.curves.specs.Curves.{entries, Lent}
+use Rattle.pixel.specs.declared.Setting.{Setting}
+use Rattle.settings.specs.Tests.{oneOrThree, inRanges, srgbAllowed, isSrgb, samples, residualCount, lengthsRight, Ranged, Lending}
+
+-- one component or three
+pub one-or-three : (c : ℕ) → oneOrThree c ≡ true → (c ≡ 1) ⊎ (c ≡ 3)
+one-or-three c e = by (eqb c 1) refl
+  where
+    by : (t : Bool) → eqb c 1 ≡ t → (c ≡ 1) ⊎ (c ≡ 3)
+    by true q = inl (eqb-true c 1 q)
+    by false q = inr (eqb-true c 3 (sym (ap (λ t. cond t true (eqb c 3)) q) ∙ e))
+
+pub count-small : (c n : ℕ) → oneOrThree c ≡ true → n ≤ 65536 → c * n ≤ 196608
+count-small c n e h = mul-le-mul (three (one-or-three c e)) h
+  where
+    three : (c ≡ 1) ⊎ (c ≡ 3) → c ≤ 3
+    three (inl q) = omega arith
+    three (inr q) = omega arith
+
+-- 20's ranges, passed
+pub ranged : (s : Setting) (n : ℕ) → inRanges s n ≡ true → Ranged s n
+unfolding inRanges
+ranged s n e =
+    let e₂ = every-rest (leb 1 (s .rb)) _ e in
+    let e₃ = every-rest (leb (s .rb) 8) _ e₂ in
+    let e₄ = every-rest (leb (s .rh) 4) _ e₃ in
+    let e₅ = every-rest (leb (s .rr) 4) _ e₄ in
+    let e₆ = every-rest (oneOrThree (s .components)) _ e₅ in
+    record {
+      rb-small = leb-true (s .rb) 8 (every-first (leb (s .rb) 8) _ e₂);
+      rh-small = leb-true (s .rh) 4 (every-first (leb (s .rh) 4) _ e₃);
+      rr-small = leb-true (s .rr) 4 (every-first (leb (s .rr) 4) _ e₄);
+      components-right = every-first (oneOrThree (s .components)) _ e₅;
+      pixels-few = leb-true n 65536 (every-first (leb n 65536) _ e₆);
+    }
+
+-- the sRGB curve is straight below
+plain-srgb : (curve : Curve) (rh rb : ℕ) → cond (isSrgb curve) (every (eqb rh 0 ∷ eqb rb 8 ∷ [])) true ≡ true → curve ≡ Srgb → rh ≡ 0
+plain-srgb curve rh rb e q = eqb-true rh 0 (every-first (eqb rh 0) (eqb rb 8 ∷ []) (sym (ap (λ k. cond (isSrgb k) (every (eqb rh 0 ∷ eqb rb 8 ∷ [])) true) q) ∙ e))
+
+-- 20 and 21 passed
+pub lending : (s : Setting) (n : ℕ) (base residual : List ℤ) (table : List ℕ) → Ranged s n → srgbAllowed s ≡ true → lengthsRight s n base residual table ≡ true
+    → Lending s n base residual table
+unfolding srgbAllowed lengthsRight residualCount
+lending s n base residual table r a e =
+    let e₂ = every-rest (eqb (length base) (samples s n)) _ e in
+    let e₃ = every-rest (eqb (length residual) (residualCount (s .residual) (samples s n))) _ e₂ in
+    let lent : Lent (s .curve) (s .rh) table =
+    record { tabled = eqb-true (length table) (entries (s .curve) (s .rh)) (every-first (eqb (length table) (entries (s .curve) (s .rh))) _ e₃); plain = plain-srgb (s .curve) (s .rh) (s .rb) a }
+    in
+    record {
+      ranged = r;
+      ready = record { rb-small = r .rb-small; rh-small = r .rh-small; rr-small = r .rr-small; lent = lent };
+      base-long = eqb-true (length base) (samples s n) (every-first (eqb (length base) (samples s n)) _ e);
+      residual-long = λ q. eqb-true (length residual) (residualCount (s .residual) (samples s n)) (every-first (eqb (length residual) (residualCount (s .residual) (samples s n))) _ e₂) ∙ ap (λ k. residualCount k (samples s n)) q;
+    }

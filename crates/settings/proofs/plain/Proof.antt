@@ -1,0 +1,46 @@
+-- `settings::plain` meets its contract. Assumes nothing.
+use borrow.Author.Tests.{eq-eqb, ne-eqb}
+use mathlib.Core.Path.{sym, ap, _∙_}
+use mathlib.Core.Bool.{not}
+use Rattle.laws.proofs.Tests.{every-pass, every-stop, every-last}
+use borrow.Author.Needs.{needs}
+use Rattle.settings.specs.Tests.{plain}
+use Rattle.settings.proofs.plain.Statement.{statement}
+use Rattle.settings.proofs.plain.Tie as tie
+
+returns : tie.Need-returns
+unfolding plain
+returns c = rw (ne-eqb (c .before .before .args .s .components) 1 (c .if1 .taken))
+
+is-transform-requires : tie.Need-is-transform-requires
+is-transform-requires c κs = search needs
+
+returns-2 : tie.Need-returns-2
+unfolding plain
+returns-2 c = rw (eq-eqb (c .before .before .before .before .args .s .components) 1 (c .before .before .if1 .left)) (sym (every-stop _ _ (ap not (sym (c .before .is-transform .ensures) ∙ c .if2 .taken))))
+
+is-transform-requires-2 : tie.Need-is-transform-requires-2
+is-transform-requires-2 c κs = search needs
+
+returns-3 : tie.Need-returns-3
+unfolding plain
+returns-3 c = rw (eq-eqb (c .before .before .before .before .before .before .args .s .components) 1 (c .before .before .before .before .if1 .left)) (sym (every-pass _ _ (ap not (sym (c .before .before .before .is-transform .ensures) ∙ c .before .before .if2 .left)) ∙ every-stop _ _ (ap not (sym (c .before .is-transform2 .ensures) ∙ c .if3 .taken))))
+
+is-on-requires : tie.Need-is-on-requires
+is-on-requires c κs = search needs
+
+returns-4 : tie.Need-returns-4
+unfolding plain
+returns-4 c = rw (eq-eqb (c .before .before .before .before .before .before .before .args .s .components) 1 (c .before .before .before .before .before .if1 .left)) (ap not (c .is-on .ensures) ∙ sym (every-pass _ _ (ap not (sym (c .before .before .before .before .is-transform .ensures) ∙ c .before .before .before .if2 .left)) ∙ every-pass _ _ (ap not (sym (c .before .before .is-transform2 .ensures) ∙ c .before .if3 .left)) ∙ every-last _))
+
+pub plain-spec : {M : Type 1} → statement M
+plain-spec =
+    tie.close
+    (tie.spec
+    returns
+    is-transform-requires
+    returns-2
+    is-transform-requires-2
+    returns-3
+    is-on-requires
+    returns-4)

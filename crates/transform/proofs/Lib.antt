@@ -1,0 +1,4 @@
+pub mod Tables
+pub mod Lengths
+pub mod Refusals
+pub mod Cases

@@ -1,0 +1,124 @@
+-- `transform::dequantise` meets its contract: behind p products the first p are there. Assumes nothing.
+use borrow.Author.Needs.{needs}
+use native.Mathlib.Omega.{arith}
+use mathlib.Core.Path.{_≡_, sym, ap, _∙_}
+use mathlib.Core.List.{List}
+use Prim.Native.Nat.{ℕ, _+_, _-_, _*_, _≤_, _<_}
+use lib.IntN.{ℤ, pos}
+use lib.ListN.{length, getD}
+use mir.Syntax.{w32, w64}
+use Rattle.laws.proofs.Integers.{back}
+use Rattle.laws.proofs.Fill.{front, front-start, front-length, front-turn, front-end}
+use Rattle.transform.specs.Zigzag.{zigzagAt}
+use Rattle.transform.specs.Picture.{scaled, dequantised}
+use Rattle.transform.proofs.Tables.{order-long, order-at, zigzag-small}
+use Rattle.transform.proofs.dequantise.Statement.{statement}
+use Rattle.transform.proofs.dequantise.Tie as tie
+
+abbrev product-of : List ℤ → List ℕ → ℕ → ℕ → ℤ
+product-of values quantisers block p = scaled (getD values (block * 64 + zigzagAt p) (pos 0)) (getD quantisers (zigzagAt p) 0)
+
+abbrev Inv-loop : tie.InvT-loop
+Inv-loop order values quantisers block s₀ p₀ s p = (p ≤ 64) × (s ≡ front s₀ (product-of values quantisers block) p)
+
+abbrev μ-loop : tie.MeasureT-loop
+μ-loop order values quantisers block s₀ p₀ s p = 64 - p
+
+loop-holds : tie.Need-loop-holds Inv-loop μ-loop
+loop-holds c = let a = c .before .before .args in (search needs, sym (front-start (a .s .now) (product-of (a .values .now) (a .quantisers .now) (a .block))))
+
+long : (c : tie.At-loop Inv-loop μ-loop) → length (c .loop .s) ≡ 64
+long c =
+    let a = c .before .before .before .args in
+    ap length (c .loop .inv .1) ∙ front-length (a .s .now) (product-of (a .values .now) (a .quantisers .now) (a .block)) (c .loop .p) (omega arith) ∙ c .before .before .before .pre .0 .1
+
+-- the index that is read from the order
+module _ (c : tie.In-loop Inv-loop μ-loop) where
+  abbrev z : ℕ
+  z = getD (c .before .before .before .before .args .order .now) (c .before .loop .p) 0
+
+  is-zigzag : z ≡ zigzagAt (c .before .loop .p)
+  is-zigzag = ap (λ (l : List ℕ). getD l (c .before .loop .p) 0) (c .before .before .before .before .pre .0 .0) ∙ order-at (c .before .loop .p) (c .loop-test .taken)
+
+  small : z < 64
+  small = rw is-zigzag (zigzag-small (c .before .loop .p) (c .loop-test .taken))
+
+mul-z : tie.Need-mul-z Inv-loop μ-loop
+mul-z c = search needs
+
+shared-slice-read-z : tie.Need-shared-slice-read-z Inv-loop μ-loop
+shared-slice-read-z c = omega (arith, ap length (c .before .before .before .before .before .pre .0 .0), order-long)
+
+mul-i : tie.Need-mul-i Inv-loop μ-loop
+mul-i c = omega arith
+
+add-i : tie.Need-add-i Inv-loop μ-loop
+add-i c = omega (arith, small (c .before))
+
+mul-scaled : tie.Need-mul-scaled Inv-loop μ-loop
+mul-scaled c = omega (arith, small (c .before))
+
+shared-slice-copy-out-scaled : tie.Need-shared-slice-copy-out-scaled Inv-loop μ-loop
+shared-slice-copy-out-scaled c = omega (arith, small (c .before))
+
+mul-scaled-2 : tie.Need-mul-scaled-2 Inv-loop μ-loop
+mul-scaled-2 c = omega (arith, small (c .before .before))
+
+shared-slice-read-scaled : tie.Need-shared-slice-read-scaled Inv-loop μ-loop
+shared-slice-read-scaled c = omega (arith, small (c .before .before .before))
+
+scaled-requires : tie.Need-scaled-requires Inv-loop μ-loop
+scaled-requires c κs = search needs
+
+mul-w : tie.Need-mul-w Inv-loop μ-loop
+mul-w c = search needs
+
+slice-set-from-w : tie.Need-slice-set-from-w Inv-loop μ-loop
+slice-set-from-w c = omega (arith, long (c .before .before .before .before .before))
+
+add-p : tie.Need-add-p Inv-loop μ-loop
+add-p c = search needs
+
+loop-less : tie.Need-loop-less Inv-loop μ-loop
+loop-less c = search needs
+
+loop-again : tie.Need-loop-again Inv-loop μ-loop
+loop-again c =
+    let a = c .before .before .before .before .before .before .before .before .args in
+    let p = c .before .before .before .before .before .loop .p in
+    let room : p < length (a .s .now) = omega arith in
+    (search needs, rw (back w64 (c .scaled .result) (c .scaled .ok), c .scaled .ensures, back w32 _ (c .before .before .scaled-arg .given), is-zigzag (c .before .before .before .before), c .before .before .before .before .before .loop .inv .1) (front-turn (a .s .now) (product-of (a .values .now) (a .quantisers .now) (a .block)) p room))
+
+same-length : tie.Need-same-length Inv-loop μ-loop
+same-length c = long (c .before) ∙ sym (c .before .before .before .before .pre .0 .1)
+
+returns : tie.Need-returns Inv-loop μ-loop
+unfolding dequantised
+returns c =
+    let a = c .before .before .before .before .args in
+    let e : c .before .loop .p ≡ 64 = omega arith in
+    c .before .loop .inv .1 ∙ rw e (front-end (a .s .now) (product-of (a .values .now) (a .quantisers .now) (a .block)) 64 (c .before .before .before .before .pre .0 .1))
+
+pub dequantise-spec : {M : Type 1} → statement M
+dequantise-spec =
+    tie.close
+    (tie.spec
+    Inv-loop
+    μ-loop
+    loop-holds
+    mul-z
+    shared-slice-read-z
+    mul-i
+    add-i
+    mul-scaled
+    shared-slice-copy-out-scaled
+    mul-scaled-2
+    shared-slice-read-scaled
+    scaled-requires
+    mul-w
+    slice-set-from-w
+    add-p
+    loop-less
+    loop-again
+    same-length
+    returns)

@@ -1,0 +1,3 @@
+pub mod Zigzag
+pub mod Picture
+pub mod Call

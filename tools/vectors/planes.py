@@ -1,0 +1,307 @@
+#!/usr/bin/env python3
+"""planes.py OUT: makes the vectors of refinement planes that crates/plane_vectors runs, from libjpeg-turbo, from the ISO reference
+software of JPEG XT, and from rules.py. README.md beside this file says what it needs. Prints what it made, a line for each group."""
+import math, os, random, struct, subprocess, sys, tempfile
+from rules import *
+
+HERE = os.path.dirname(os.path.abspath(__file__))
+TMP = tempfile.mkdtemp()
+records, made = [], {}
+READ_DC, WRITE_DC, READ_AC, WRITE_AC, TRIP_DC, TRIP_AC = 1, 2, 3, 4, 5, 6
+
+
+def sparse(values):
+    out, gap, entries = bytearray(), 0, 0
+    for v in values:
+        if v == 0:
+            gap += 1
+            continue
+        while gap > 254:
+            out += struct.pack('<Bh', 255, 0)
+            gap -= 255
+            entries += 1
+        out += struct.pack('<Bh', gap, v) if -32768 < v < 32768 else struct.pack('<BhI', gap, -32768, v + (1 << 20))
+        gap = 0
+        entries += 1
+    return struct.pack('<II', len(values), entries) + bytes(out)
+
+
+def lent(data):
+    return struct.pack('<I', len(data)) + bytes(data)
+
+
+def record(group, kind, plane, blocks, room, values, answer, counts=b'', codes=b'', data=b''):
+    number, place, out = answer
+    reads = kind in (READ_DC, READ_AC)
+    made[group] = made.get(group, 0) + 1
+    body = struct.pack('<BBIII', group, kind, plane, blocks, room) + lent(counts) + lent(codes) + lent(data) + sparse(values)
+    body += struct.pack('<II', number, place)
+    if number == 0:
+        body += sparse(out) if reads else lent(out)
+    records.append(body)
+
+
+def trip(group, plane, blocks, new, data, table=None):
+    """These values are written as these bytes, and the bytes over the halves are read as these values."""
+    made[group] = made.get(group, 0) + 2
+    if table:
+        old = [half(v) for v in new]
+        assert read_ac(plane, blocks, *table, data, old, len(old)) == (0, len(old), new) and write_ac(plane, blocks, *table, new, 10 ** 6) == (0, len(data), data)
+    else:
+        old = [v // 2 for v in new]
+        assert read_dc(plane, blocks, data, old, blocks) == (0, blocks, new) and write_dc(plane, blocks, new, 10 ** 6) == (0, len(data), data)
+    counts, codes = table or (b'', b'')
+    body = struct.pack('<BBIII', group, TRIP_AC if table else TRIP_DC, plane, blocks, len(data)) + lent(counts) + lent(codes) + lent(data) + sparse(new)
+    records.append(body + struct.pack('<II', 0, 0))
+
+
+# ---- pictures
+
+def grey(name, width, height, depth, f):
+    top = (1 << depth) - 1
+    pixels = [max(0, min(top, int(f(x, y)))) for y in range(height) for x in range(width)]
+    body = bytes(pixels) if depth == 8 else b''.join(struct.pack('>H', p) for p in pixels)
+    path = os.path.join(TMP, name)
+    with open(path, 'wb') as out:
+        out.write(b'P5\n%d %d\n%d\n' % (width, height, top) + body)
+    return path
+
+
+def wavy(depth, noise, seed):
+    rnd = random.Random(seed)
+    unit = 1 << (depth - 8)
+    return lambda x, y: unit * (128 + 50 * math.sin(x / 7) + 40 * math.cos(y / 5) + rnd.uniform(-noise, noise))
+
+
+def coefficients(jpeg):
+    path = os.path.join(TMP, 'cut.jpg')
+    with open(path, 'wb') as f:
+        f.write(jpeg)
+    text = subprocess.run([os.path.join(TMP, 'coefficients'), path], capture_output=True, check=True).stdout.decode().split('\n')
+    return [list(map(int, line.split())) for line in text[1:] if line]
+
+
+def scans(jpeg):
+    """Each scan: where it begins, where its data begin and end, its bounds, and the AC tables in force."""
+    at, tables, found = 2, {}, []
+    while jpeg[at + 1] != 0xD9:
+        marker, size = jpeg[at + 1], int.from_bytes(jpeg[at + 2:at + 4], 'big')
+        body = jpeg[at + 4:at + 2 + size]
+        if marker == 0xC4:
+            i = 0
+            while i < len(body):
+                n = sum(body[i + 1:i + 17])
+                tables[body[i]] = (body[i + 1:i + 17], body[i + 17:i + 17 + n])
+                i += 17 + n
+        start = at
+        at += 2 + size
+        if marker == 0xDA:
+            end = at
+            while not (jpeg[end] == 0xFF and jpeg[end + 1] != 0):
+                end += 1
+            first, last, bounds = body[-3], body[-2], body[-1]
+            found.append((start, at, end, first, bounds >> 4, bounds & 15, tables.get(0x10 | body[2] & 15)))
+            at = end
+    return found
+
+
+# ---- groups
+
+def from_libjpeg(width, height, planes, quality, picture):
+    """A progressive picture: base and refinement scans, values before and after each from libjpeg's coefficient calls."""
+    script = ''.join(f'0: 0-0, {a}, {b};\n0: 1-63, {a}, {b};\n' for a, b in [(0, planes)] + [(l, l - 1) for l in range(planes, 0, -1)])
+    names = [os.path.join(TMP, n) for n in ('scans.txt', 'p.jpg')]
+    with open(names[0], 'w') as f:
+        f.write(script)
+    source = grey('p.pgm', width, height, 8, picture)
+    subprocess.run(['cjpeg', '-quality', str(quality), '-grayscale', '-optimize', '-scans', names[0], '-outfile', names[1], source], check=True)
+    jpeg = open(names[1], 'rb').read()
+    different = 0
+    for start, data, end, first, high, low, table in scans(jpeg):
+        if high == 0:
+            continue
+        before, after = coefficients(jpeg[:start] + b'\xff\xd9'), coefficients(jpeg[:end] + b'\xff\xd9')
+        blocks, plane, bytes_ = len(before), planes - low, jpeg[data:end]
+        if first == 0:
+            old, new = [b[0] >> high for b in before], [b[0] >> low for b in after]
+            assert old == [v // 2 for v in new]
+            trip(1, plane, blocks, new, bytes_)
+        else:
+            level = lambda list_, shift: [(abs(v) >> shift) * (1 if v > 0 else -1) for b in list_ for v in b[1:]]
+            old, new = level(before, high), level(after, low)
+            assert old == [half(v) for v in new] and read_ac(plane, blocks, *table, bytes_, old, 63 * blocks) == (0, 63 * blocks, new)
+            ours = write_ac(plane, blocks, *table, new, 10 ** 6)
+            if ours == (0, len(bytes_), bytes_):
+                trip(2, plane, blocks, new, bytes_, table)
+            else:
+                different += 1
+                print(f'  plane {plane} of {blocks} blocks: libjpeg wrote {len(bytes_)} bytes, the longest end runs give (number, place) {ours[:2]}')
+                record(3, READ_AC, plane, blocks, 63 * blocks, old, (0, 63 * blocks, new), *table, data=bytes_)
+                record(3, WRITE_AC, plane, blocks, 10 ** 6, new, ours, *table)
+    return different
+
+
+def boxes(jpeg, kind):
+    """The boxes of a type by instance, each from its packets in order."""
+    at, found = 2, {}
+    while True:
+        marker, size = jpeg[at + 1], int.from_bytes(jpeg[at + 2:at + 4], 'big')
+        if marker == 0xDA:
+            return [b''.join(p for _, p in sorted(found[i])) for i in sorted(found)]
+        if marker == 0xEB and jpeg[at + 4:at + 6] == b'JP' and jpeg[at + 16:at + 20] == kind:
+            instance, number = struct.unpack('>HI', jpeg[at + 6:at + 12])
+            found.setdefault(instance, []).append((number, jpeg[at + 20:at + 2 + size]))
+        at += 2 + size
+
+
+def from_reference(width, height, planes, noise, seed):
+    """FINE boxes of the ISO reference software: each a refinement scan of the base image."""
+    picture = grey('r.pgm', width, height, 8 + planes, wavy(8 + planes, noise, seed))
+    out = os.path.join(TMP, 'r.jpg')
+    subprocess.run(['jpeg', '-q', '90', '-R', str(planes), '-h', picture, out], check=True, capture_output=True)
+    jpeg = open(out, 'rb').read()
+    base = coefficients(jpeg)
+    blocks = len(base)
+    dc, ac = [b[0] for b in base], [v for b in base for v in b[1:]]
+    for box in boxes(jpeg, b'FINE'):
+        start, data, end, first, high, low, table = scans(b'\xff\xd8' + box + b'\xff\xd9')[0]
+        plane, bytes_ = planes - low, (b'\xff\xd8' + box)[data:end]
+        if first == 0:
+            answer = read_dc(plane, blocks, bytes_, dc, blocks)
+            assert answer[0] == 0, answer
+            dc = answer[2]
+            trip(4, plane, blocks, dc, bytes_)
+        else:
+            answer = read_ac(plane, blocks, *table, bytes_, ac, 63 * blocks)
+            assert answer[0] == 0, answer
+            ac = answer[2]
+            trip(5, plane, blocks, ac, bytes_, table)
+
+
+ALL = bytes(16 * r for r in range(16)) + bytes(16 * r + 1 for r in range(16))
+SIX = bytes([0, 0, 0, 0, 0, 32] + [0] * 10)
+T = (bytes([0, 3] + [0] * 14), bytes([0x00, 0x01, 0xF0]))
+
+
+def by_rules(group, kind, plane, blocks, room, values, counts=b'', codes=b'', data=b''):
+    call = {
+        READ_DC: lambda: read_dc(plane, blocks, data, values, room),
+        WRITE_DC: lambda: write_dc(plane, blocks, values, room),
+        READ_AC: lambda: read_ac(plane, blocks, counts, codes, data, values, room),
+        WRITE_AC: lambda: write_ac(plane, blocks, counts, codes, values, room),
+    }[kind]
+    answer = call()
+    record(group, kind, plane, blocks, room, values, answer, counts, codes, data)
+    return answer
+
+
+def some_values(rnd, count, level, density, dc=False):
+    top = 1 << 11 + level
+    pick = lambda: rnd.choice([-3, -2, -1, 1, 2, 3]) if rnd.random() < 0.7 else rnd.randint(-top + (0 if dc else 1), top - 1)
+    return [pick() if rnd.random() < density else 0 for _ in range(count)]
+
+
+def counts_and_runs(rnd):
+    for blocks in (0, 1, 2, 63, 1023, 1024):
+        for plane in (1, 4):
+            values = some_values(rnd, blocks, plane, 0.5, dc=True)
+            trip(6, plane, blocks, values, write_dc(plane, blocks, values, 10 ** 6)[2])
+            values = some_values(rnd, 63 * blocks, plane, 0.02 if blocks < 100 else 0.001)
+            trip(7, plane, blocks, values, write_ac(plane, blocks, SIX, ALL, values, 10 ** 6)[2], (SIX, ALL))
+    for run in (1, 2, 3, 4, 7, 8, 15, 16, 31, 32, 63, 64, 127, 128, 255, 256, 511, 512, 1023):
+        values = [1] + [0] * (63 * run + 62)
+        trip(8, 1, run + 1, values, write_ac(1, run + 1, SIX, ALL, values, 10 ** 6)[2], (SIX, ALL))
+    for zeros in (14, 15, 16, 17, 30, 31, 32, 33, 47, 48, 49, 61, 62):
+        for kept in (0, 1):
+            values = [0] * zeros + [-1] + [0] * (62 - zeros)
+            if kept and zeros > 20:
+                values[5] = 6
+                values[20] = -5
+            trip(9, 2, 1, values, write_ac(2, 1, SIX, ALL, values, 10 ** 6)[2], (SIX, ALL))
+
+
+def refusals(rnd):
+    zeros = [0] * 63
+    for plane in (0, 1, 4, 5):
+        for blocks, length in ((1, 63), (1, 62), (1024, 63), (1025, 63)):
+            by_rules(10, READ_AC, plane, blocks, 63, [0] * length, *T, data=b'\x67')
+            by_rules(10, WRITE_AC, plane, blocks, 63, [0] * length, *T)
+            by_rules(10, READ_DC, plane, blocks, 63, [0] * (length // 62), data=b'\x67')
+            by_rules(10, WRITE_DC, plane, blocks, 63, [0] * (length // 62))
+    bad_tables = [(b'', b''), (bytes(15), b'\0'), (bytes(17), b''), (bytes(16), b''), (bytes([1] + [0] * 15), b''), (bytes([2] + [0] * 15), b'\0\1'),
+                  (bytes([0, 2] + [0] * 14), b'\0\0'), (bytes([0, 3] + [0] * 14), b'\0\1'), (bytes([1] * 15 + [2]), bytes(range(17))), (bytes([1] * 16), bytes(range(16))),
+                  (bytes([0] * 8 + [255] + [0] * 7), bytes(range(255))), (bytes([0] * 15 + [255]), bytes(range(255)))]
+    for table in bad_tables:
+        by_rules(11, READ_AC, 1, 1, 63, zeros, *table, data=b'\x67')
+        by_rules(11, WRITE_AC, 1, 1, 63, zeros, *table)
+    for level in range(1, 5):
+        for v in ((1 << 10 + level) - 1, 1 << 10 + level, -(1 << 10 + level), -(1 << 10 + level) - 1):
+            for at in (0, 62):
+                values = zeros[:at] + [v] + zeros[at + 1:]
+                by_rules(12, READ_AC, level, 1, 63, values, *T, data=b'\x43')
+                by_rules(12, READ_DC, level, 63, 63, values, data=b'\x43')
+                if level < 4:
+                    by_rules(12, WRITE_AC, level - 1, 1, 63, values, *T)
+                by_rules(12, WRITE_DC, max(1, level - 1), 63, 63, values)
+    for room in (0, 62, 63):
+        by_rules(13, READ_AC, 1, 1, room, zeros, *T, data=b'\x3f')
+        by_rules(13, READ_DC, 1, 63, room, zeros, data=b'\x3f' * 8)
+    for values in ([1] * 8, [1] * 16, [0] * 9, [1] * 7):
+        for room in range(6):
+            by_rules(13, WRITE_DC, 1, len(values), room, values)
+    for room in range(3):
+        by_rules(13, WRITE_AC, 1, 1, room, [1] * 9 + [0] * 54, *T)
+    for missing in (0x00, 0x01, 0xF0, 0x31, 0x50):
+        codes = bytes(c for c in ALL if c != missing)
+        table = (bytes([0, 0, 0, 0, 0, 31] + [0] * 10), codes)
+        for blocks, values in ((1, [1] + [0] * 62), (1, [0] * 3 + [1] + [0] * 59), (1, [0] * 20 + [1] + [0] * 42), (40, [0] * 63 * 40)):
+            by_rules(14, WRITE_AC, 1, blocks, 100, values, *table)
+    for blocks in (1, 2, 9):
+        for data in (b'', b'\xff', b'\xff\x01', b'\xff\x00', b'\xff\x00\xff', b'\xff\x00\xff\xff', b'\xbf', b'\xbf\xff', b'\xbf\xff\x01', b'\x3f\xff\x00', b'\x00'):
+            by_rules(15, READ_DC, 1, blocks, blocks, [3] * blocks, data=data)
+            by_rules(15, READ_AC, 1, blocks, 63 * blocks, zeros * blocks, *T, data=data)
+            by_rules(15, READ_AC, 1, blocks, 63 * blocks, [3] * 63 * blocks, *T, data=data)
+    by_rules(15, READ_DC, 1, 0, 0, [], data=b'\xff')
+    by_rules(15, READ_AC, 1, 0, 0, [], *T, data=b'\x00')
+    odd = (SIX, bytes([0x00, 0x01, 0x02, 0x13, 0xF1, 0xFF, 0xE0]) + bytes(range(0x80, 0x99)))
+    for _ in range(150):
+        blocks = rnd.choice([1, 2, 3, 20])
+        values = [half(v) for v in some_values(rnd, 63 * blocks, 2, rnd.choice([0, 0.1, 0.8]))]
+        data = bytes(rnd.choice([0, 1, 0x55, 0xFF, rnd.randrange(256)]) for _ in range(rnd.choice([1, 3, 8, 40])))
+        by_rules(16, READ_AC, 2, blocks, 63 * blocks, values, *rnd.choice([T, odd, (SIX, ALL)]), data=data)
+    for _ in range(150):
+        blocks = rnd.choice([1, 2, 5])
+        values = some_values(rnd, 63 * blocks, 3, rnd.choice([0.02, 0.2, 0.9]))
+        number, _, data = write_ac(3, blocks, SIX, ALL, values, 10 ** 6)
+        data = bytearray(data)
+        if rnd.random() < 0.5:
+            data = data[:rnd.randrange(len(data) + 1)]
+        for _ in range(rnd.choice([0, 1, 1, 2])):
+            if data:
+                data[rnd.randrange(len(data))] ^= 1 << rnd.randrange(8)
+        by_rules(17, READ_AC, 3, blocks, 63 * blocks, [half(v) for v in values], SIX, ALL, bytes(data))
+    for _ in range(60):
+        blocks = rnd.choice([1, 2, 5])
+        by_rules(18, WRITE_AC, 3, blocks, rnd.choice([3, 50, 500]), some_values(rnd, 63 * blocks, 3, rnd.choice([0.02, 0.2, 0.9])), *rnd.choice([T, (SIX, ALL)]))
+
+
+def main():
+    subprocess.run(['gcc', '-O1', '-o', os.path.join(TMP, 'coefficients'), os.path.join(HERE, 'coefficients.c'), '-ljpeg'], check=True)
+    rnd = random.Random(18477)
+    different = 0
+    stripes = lambda x, y: 255 * (x % 2)
+    for width, height, planes, quality, f in ((8, 8, 1, 90, wavy(8, 20, 1)), (16, 8, 2, 90, wavy(8, 20, 2)), (72, 56, 3, 92, wavy(8, 8, 3)), (64, 48, 4, 95, wavy(8, 12, 4)),
+                                              (256, 256, 2, 60, wavy(8, 1, 5)), (96, 96, 1, 97, wavy(8, 30, 6)), (136, 136, 2, 90, stripes)):
+        different += from_libjpeg(width, height, planes, quality, f)
+    for planes in range(1, 5):
+        from_reference(40, 32, planes, 8, planes)
+    counts_and_runs(rnd)
+    refusals(rnd)
+    with open(sys.argv[1], 'wb') as f:
+        f.write(struct.pack('<I', len(records)) + b''.join(records))
+    for group in sorted(made):
+        print(f'group {group}: {made[group]}')
+    print(f'{len(records)} records, {os.path.getsize(sys.argv[1])} bytes; libjpeg differs in {different} planes')
+
+
+main()
