@@ -1,0 +1,3 @@
+pub mod KindTests
+pub mod Looking
+pub mod Tasks

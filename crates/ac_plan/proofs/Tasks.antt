@@ -1,0 +1,38 @@
+-- What is left of a task that is not at its end; the task that is planned. Assumes nothing.
+use mathlib.Core.Path.{_≡_, refl}
+use mathlib.Core.Bool.{Bool}
+use mathlib.Core.Option.{Option, some}
+use mathlib.Core.List.{List}
+use Prim.Native.Nat.{ℕ, zero, suc, _-_, _≤_, _<_}
+use native.Mathlib.Numerals.{sub-one}
+use native.Mathlib.Omega.{arith}
+use borrow.Author.Tests.{lt-ltb, le-ltb}
+use Rattle.planes.specs.Task.{walk, ended, pass, over}
+use Rattle.planes.specs.AcWrite.{Kind, ahead, quiet, plan}
+use Rattle.ac_tasks.specs.declared.Job.the-variants.{Leave, Set, Ended}
+use Rattle.ac_plan.specs.Plan.{comingIs, Planned}
+use Rattle.ac_plan.specs.declared.Coming.{Coming}
+use Rattle.ac_plan.specs.declared.Coming.the-variants.{Value, Quiet}
+
+pub pass-on : (n : ℕ) (sign : Option Bool) → (n ≡ 0 → ⊥) → some (walk (n - 1) sign) ≡ pass (walk n sign)
+pass-on zero sign h = absurd (h refl)
+pass-on (suc n) sign h = rw sub-one
+
+pub over-on : (n : ℕ) → (n ≡ 0 → ⊥) → some (ended (n - 1)) ≡ over (some (ended n))
+over-on zero h = absurd (h refl)
+over-on (suc n) h = rw sub-one
+
+-- ---- the task planned by what is coming
+
+module _ (kinds : List Kind) (later : List (List Kind)) (c : Coming) (e : comingIs c ≡ ahead kinds) where
+  pub plan-set : {zeros : ℕ} {b : Bool} → c ≡ Value zeros b → zeros < 16 → Planned (Set zeros b) (plan kinds later)
+  unfolding plan comingIs
+  plan-set {zeros} q h = record { same = rw (← e, q, lt-ltb zeros 16 h); short = h }
+
+  pub plan-leave : {zeros : ℕ} {b : Bool} → c ≡ Value zeros b → 16 ≤ zeros → Planned (Leave 15) (plan kinds later)
+  unfolding plan comingIs
+  plan-leave {zeros} q h = record { same = rw (← e, q, le-ltb zeros 16 h); short = omega arith }
+
+  pub plan-ended : {n : ℕ} → c ≡ Quiet → n ≡ quiet later → n ≤ 1024 → Planned (Ended n) (plan kinds later)
+  unfolding plan comingIs
+  plan-ended q f h = record { same = rw (← e, q, f); short = h }

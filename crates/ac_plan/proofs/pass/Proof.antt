@@ -1,0 +1,52 @@
+-- `ac_plan::pass` meets its contract. Assumes nothing.
+use mathlib.Core.Path.{_≡_}
+use mathlib.Core.Option.{none, some}
+use Rattle.ac_plan.proofs.Tasks.{pass-on}
+use borrow.Author.Needs.{needs}
+use Rattle.ac_plan.proofs.pass.Statement.{statement}
+use Rattle.ac_plan.proofs.pass.Tie as tie
+
+enum-known-job : tie.Need-enum-known-job
+enum-known-job c = search needs
+
+returns : tie.Need-returns
+returns c = rw (c .before .before .job .given .1, c .if1 .taken)
+
+sub-t8 : tie.Need-sub-t8
+sub-t8 c = search needs
+
+enum-known-job-2 : tie.Need-enum-known-job-2
+enum-known-job-2 c = search needs
+
+returns-2 : tie.Need-returns-2
+returns-2 c = rw (c .before .before .job2 .given .1, c .if2 .taken)
+
+sub-t11 : tie.Need-sub-t11
+sub-t11 c = search needs
+
+enum-known-job-3 : tie.Need-enum-known-job-3
+enum-known-job-3 c = search needs
+
+returns-3 : tie.Need-returns-3
+returns-3 c = rw (c .before .before .job .given .1) (pass-on _ none (c .if1 .left))
+
+returns-4 : tie.Need-returns-4
+returns-4 c = rw (c .before .before .job2 .given .1) (pass-on _ _ (c .if2 .left))
+
+returns-5 : tie.Need-returns-5
+returns-5 c = rw (c .before .job3 .given .1)
+
+pub pass-spec : {M : Type 1} → statement M
+pass-spec =
+    tie.close
+    (tie.spec
+    enum-known-job
+    returns
+    sub-t8
+    enum-known-job-2
+    returns-2
+    sub-t11
+    enum-known-job-3
+    returns-3
+    returns-4
+    returns-5)

@@ -1,0 +1,150 @@
+// What the AC writer sees in its values (01, "The writer takes level j values, .. and codes them against their halves").
+ghost use mathlib.Core.Path.{_≡_};
+ghost use Prim.Native.Nat.{_*_, _≤_};
+ghost use lib.ListN.{length};
+ghost use Rattle.planes.specs.Task as defined;
+ghost use Rattle.planes.specs.AcWrite as written;
+ghost use Rattle.ac_tasks.specs.Code.{taskOf, openOf};
+ghost use Rattle.ac_plan.specs.Plan.{kindsFrom, kindBlocks, kindIs, comingIs, Planned};
+use ac_tasks::Job;
+use ac_tasks::Open;
+
+// A value against its half: its correction bit, a zero that stays, or a new value with its sign.
+pub enum Change {
+    Kept(bool),
+    Still,
+    Fresh(bool),
+}
+
+// The zeros before the next new value of a block, and its sign; or no new value is left.
+pub enum Coming {
+    Value(usize, bool),
+    Quiet,
+}
+
+// "against their halves (.. AC toward zero)"
+pub fn kind_of(value: i32) -> Change
+    ensures { λ r. ⌜ kindIs r ≡ written.kindOf value ⌝ }
+{
+    if value == 0 {
+        return Change::Still;
+    }
+    if value == 1 {
+        return Change::Fresh(true);
+    }
+    if value == -1 {
+        return Change::Fresh(false);
+    }
+    Change::Kept(value % 2 != 0)
+}
+
+// The next new value of a block, from a position on.
+pub fn ahead_of(block: &[i32], from: usize) -> Coming
+    ensures { λ r. ⌜ comingIs r ≡ written.ahead (kindsFrom (now (block .entry)) from) ⌝ }
+{
+    let mut zeros = 0;
+    let mut i = from;
+    while i < block.len() {
+        let change = kind_of(block[i]);
+        match change {
+            Change::Fresh(positive) => return Coming::Value(zeros, positive),
+            Change::Kept(_) => i += 1,
+            Change::Still => {
+                zeros += 1;
+                i += 1;
+            }
+        }
+    }
+    Coming::Quiet
+}
+
+// How many blocks, from the first on, have no new value.
+fn quiet_of(later: &[i32], blocks: usize) -> usize
+    requires { ⌜ length (now later) ≡ 63 * blocks ⌝ }
+    ensures { λ r. ⌜ (r ≡ written.quiet (kindBlocks blocks (now (later .entry)))) × (r ≤ blocks) ⌝ }
+{
+    let mut n = 0;
+    while n < blocks {
+        let at = 63 * n;
+        let end = at + 63;
+        if let Coming::Value(_, _) = ahead_of(&later[at..end], 0) {
+            return n;
+        }
+        n += 1;
+    }
+    n
+}
+
+// "the longest end run", "directly after the last new value"; "the 16-zero code only before a later new value"
+pub fn plan(block: &[i32], i: usize, later: &[i32], blocks: usize) -> Job
+    requires { ⌜ (length (now later) ≡ 63 * blocks) × (blocks ≤ 1024) ⌝ }
+    ensures { λ r. ⌜ Planned r (written.plan (kindsFrom (now (block .entry)) i) (kindBlocks blocks (now (later .entry)))) ⌝ }
+{
+    match ahead_of(block, i) {
+        Coming::Quiet => Job::Ended(quiet_of(later, blocks)),
+        Coming::Value(zeros, positive) => {
+            if zeros < 16 {
+                return Job::Set(zeros, positive);
+            }
+            Job::Leave(15)
+        }
+    }
+}
+
+// What is left of a task behind a zero.
+fn pass(job: Job) -> Open
+    ensures { λ r. ⌜ openOf r ≡ defined.pass (taskOf job) ⌝ }
+{
+    match job {
+        Job::Leave(n) => {
+            if n == 0 {
+                return Open::Nothing;
+            }
+            Open::Doing(Job::Leave(n - 1))
+        }
+        Job::Set(n, positive) => {
+            if n == 0 {
+                return Open::Nothing;
+            }
+            Open::Doing(Job::Set(n - 1, positive))
+        }
+        Job::Ended(n) => Open::Doing(Job::Ended(n)),
+    }
+}
+
+// What is left of it behind a value.
+pub fn after(job: Job, change: Change) -> Open
+    ensures { λ r. ⌜ openOf r ≡ written.after (taskOf job) (kindIs change) ⌝ }
+{
+    match change {
+        Change::Kept(_) => Open::Doing(job),
+        Change::Still => pass(job),
+        Change::Fresh(_) => pass(job),
+    }
+}
+
+// What is left of it behind a block.
+fn over_job(job: Job) -> Open
+    ensures { λ r. ⌜ openOf r ≡ defined.over (openOf (Open.Doing job)) ⌝ }
+{
+    match job {
+        Job::Ended(n) => {
+            if n == 0 {
+                return Open::Nothing;
+            }
+            Open::Doing(Job::Ended(n - 1))
+        }
+        Job::Leave(_) => Open::Nothing,
+        Job::Set(_, _) => Open::Nothing,
+    }
+}
+
+// The job that the next block begins with.
+pub fn over(task: Open) -> Open
+    ensures { λ r. ⌜ openOf r ≡ defined.over (openOf task) ⌝ }
+{
+    match task {
+        Open::Nothing => Open::Nothing,
+        Open::Doing(job) => over_job(job),
+    }
+}

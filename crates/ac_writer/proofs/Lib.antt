@@ -1,0 +1,5 @@
+pub mod Tokens
+pub mod Classes
+pub mod Lengths
+pub mod Positions
+pub mod Planes

@@ -1,0 +1,125 @@
+-- Laws of tokens told one after another: what is put and what the table lacks. Assumes nothing.
+use mathlib.Core.Path.{_≡_, refl, sym, ap, subst, _∙_}
+use mathlib.Core.Bool.{Bool}
+use mathlib.Core.List.{List, [], _∷_, _++_, append-assoc, append-nil, map}
+use Prim.Native.Nat.{ℕ, suc, _+_, _*_}
+use native.Mathlib.Numerals.{add-one}
+use native.Mathlib.Omega.{arith}
+use Rattle.laws.specs.declared.Found.{Found}
+use Rattle.laws.specs.declared.Found.the-variants.{At, Nothing}
+use Rattle.bits.specs.Code.{Sound, Puts}
+use Rattle.bits.specs.Digits.{digits}
+use Rattle.bits.proofs.Putting.{puts-none, puts-then, Going, going-start, going-turn, going-end}
+use Rattle.codes.specs.Table.{Table}
+use Rattle.codes.specs.Write.{placeOf, codeAt, word}
+use Rattle.planes.specs.Task.{ended}
+use Rattle.planes.specs.AcWrite.{Token, code, raw, class, emit, orElse, missing, spelled}
+use Rattle.ac_writer.specs.Telling.{firstOf, Told}
+use Rattle.ac_writer.specs.declared.Pen.{Pen}
+use Rattle.ac_writer.proofs.Classes.{run-bits}
+
+-- ---- tokens in two parts
+
+pub spelled-append : (T : Table) (a b : List Token) → spelled T (a ++ b) ≡ spelled T a ++ spelled T b
+unfolding spelled
+spelled-append T [] b = refl
+spelled-append T (raw x ∷ a) b = ap (_∷_ x) (spelled-append T a b)
+spelled-append T (code v ∷ a) b = ap (λ (l : List Bool). word T v ++ l) (spelled-append T a b) ∙ sym (append-assoc (word T v) (spelled T a) (spelled T b))
+
+else-first : (v : ℕ) (f a b : Found) → orElse v f (firstOf a b) ≡ firstOf (orElse v f a) b
+else-first v (At k) a b = refl
+else-first v Nothing a b = refl
+
+missing-append : (T : Table) (a b : List Token) → missing T (a ++ b) ≡ firstOf (missing T a) (missing T b)
+unfolding missing
+missing-append T [] b = refl
+missing-append T (raw x ∷ a) b = missing-append T a b
+missing-append T (code v ∷ a) b =
+    ap (orElse v (placeOf v (T .values))) (missing-append T a b) ∙ else-first v (placeOf v (T .values)) (missing T a) (missing T b)
+
+first-assoc : (a b c : Found) → firstOf (firstOf a b) c ≡ firstOf a (firstOf b c)
+first-assoc (At v) b c = refl
+first-assoc Nothing b c = refl
+
+first-none : (a : Found) → firstOf a Nothing ≡ a
+first-none (At v) = refl
+first-none Nothing = refl
+
+-- bits by themselves
+pub spelled-raw : (T : Table) (bits : List Bool) → spelled T (map raw bits) ≡ bits
+unfolding spelled
+spelled-raw T [] = refl
+spelled-raw T (b ∷ bits) = ap (_∷_ b) (spelled-raw T bits)
+
+missing-raw : (T : Table) (bits : List Bool) → missing T (map raw bits) ≡ Nothing
+unfolding missing
+missing-raw T [] = refl
+missing-raw T (b ∷ bits) = missing-raw T bits
+
+-- ---- what was told
+
+module _ {T : Table} where
+  pub told-none : {before : List ℕ} {p : Pen} → Sound (p .putter) → Told T before before p p []
+  unfolding spelled missing
+  told-none {before} {p} s = record { put = puts-none s; lack = sym (first-none (p .lack)) }
+
+  pub told-then : {a b c : List ℕ} {p q r : Pen} {xs ys : List Token} → Told T a b p q xs → Told T b c q r ys → Told T a c p r (xs ++ ys)
+  told-then {p = p} {xs = xs} {ys = ys} f g = record {
+    put = rw (spelled-append T xs ys) (puts-then (f .put) (g .put));
+    lack = g .lack ∙ ap (λ (x : Found). firstOf x (missing T ys)) (f .lack) ∙ first-assoc (p .lack) (missing T xs) (missing T ys) ∙ ap (firstOf (p .lack)) (sym (missing-append T xs ys));
+  }
+
+  -- bits alone
+  pub told-bits : {before after : List ℕ} {p r : Pen} (bits : List Bool) → Puts before after (p .putter) (r .putter) bits → r .lack ≡ p .lack
+      → Told T before after p r (map raw bits)
+  told-bits {p = p} bits f e =
+      record { put = rw (spelled-raw T bits) f; lack = e ∙ sym (first-none (p .lack)) ∙ ap (firstOf (p .lack)) (sym (missing-raw T bits)) }
+
+-- ---- one code
+
+module _ (T : Table) {before after : List ℕ} {p r : Pen} (v : ℕ) where
+  -- the table holds it
+  pub told-held : {k : ℕ} → placeOf v (T .values) ≡ At k → Puts before after (p .putter) (r .putter) (codeAt (T .counts) 0 1 k) → r .lack ≡ p .lack
+      → Told T before after p r (code v ∷ [])
+  unfolding spelled missing word
+  told-held {k} e f q = record {
+    put = rw (e, append-nil (codeAt (T .counts) 0 1 k)) f;
+    lack = rw e (q ∙ sym (first-none (p .lack)));
+  }
+
+  -- or lacks it
+  pub told-lacked : placeOf v (T .values) ≡ Nothing → Puts before after (p .putter) (r .putter) [] → r .lack ≡ firstOf (p .lack) (At v)
+      → Told T before after p r (code v ∷ [])
+  unfolding spelled missing word
+  told-lacked e f q = record { put = rw e f; lack = rw e q }
+
+-- ---- an end run: its code, then the bits
+
+run-tokens : (n r : ℕ) → r ≡ class (n + 1) → code (16 * r) ∷ map raw (digits r (n + 1)) ≡ emit (ended n)
+unfolding emit
+run-tokens n r e = rw (e, add-one n) (ap (λ (l : List Bool). code (16 * class (suc n)) ∷ map raw l) (run-bits (suc n) (omega arith)))
+
+pub told-run : {T : Table} {a b c : List ℕ} {p q s : Pen} (n r : ℕ) → r ≡ class (n + 1) → Told T a b p q (code (16 * r) ∷ [])
+    → Puts b c (q .putter) (s .putter) (digits r (n + 1)) → s .lack ≡ q .lack → Told T a c p s (emit (ended n))
+told-run {T} {a} {b} {c} {p} {q} {s} n r e f g h = subst (Told T a c p s) (run-tokens n r e) (told-then f (told-bits (digits r (n + 1)) g h))
+
+-- ---- a loop that tells tokens: those still to tell come to what all of them come to
+
+pub record Telling (T : Table) (before memory : List ℕ) (p q : Pen) (rest all : List Token) : Type 0 where
+  pub going : Going before memory (p .putter) (q .putter) (spelled T rest) (spelled T all)
+  pub lack : firstOf (q .lack) (missing T rest) ≡ firstOf (p .lack) (missing T all)
+
+module _ {T : Table} {before : List ℕ} {p : Pen} where
+  pub telling-start : {all : List Token} → Sound (p .putter) → Telling T before before p p all all
+  telling-start s = record { going = going-start s; lack = refl }
+
+  pub telling-turn : {memory after : List ℕ} {q r : Pen} {all : List Token} (xs rest : List Token) → Telling T before memory p q (xs ++ rest) all
+      → Told T memory after q r xs → Telling T before after p r rest all
+  telling-turn {q = q} xs rest g f = record {
+    going = going-turn (spelled T xs) (spelled T rest) (rw (spelled-append T xs rest) at (g .going)) (f .put);
+    lack = ap (λ (x : Found). firstOf x (missing T rest)) (f .lack) ∙ first-assoc (q .lack) (missing T xs) (missing T rest) ∙ ap (firstOf (q .lack)) (sym (missing-append T xs rest)) ∙ g .lack;
+  }
+
+  pub telling-end : {memory : List ℕ} {q : Pen} {all : List Token} → Telling T before memory p q [] all → Told T before memory p q all
+  unfolding spelled missing
+  telling-end {q = q} g = record { put = going-end (g .going); lack = sym (first-none (q .lack)) ∙ g .lack }

@@ -1,0 +1,53 @@
+-- `ac_writer::tell_code` meets its contract. Assumes nothing.
+use mathlib.Core.Path.{_≡_, refl, sym, _∙_}
+use Rattle.bits.proofs.Putting.{puts-none}
+use Rattle.codes.specs.Table.{table}
+use Rattle.codes.proofs.Trip.{placed}
+use Rattle.ac_writer.proofs.Tokens.{told-held, told-lacked}
+use native.Mathlib.Omega.{arith}
+use borrow.Author.Needs.{needs}
+use Rattle.ac_writer.proofs.tell_code.Statement.{statement}
+use Rattle.ac_writer.proofs.tell_code.Tie as tie
+
+place-of-requires : tie.Need-place-of-requires
+place-of-requires c κs = search needs
+
+enum-known-place : tie.Need-enum-known-place
+enum-known-place c = search needs
+
+put-code-requires : tie.Need-put-code-requires
+put-code-requires c κs =
+    let a = c .before .before .before .before .before .before .before .before .before in
+    (a .pre .0 .sound, (omega (arith, a .pre .0 .near), a .pre .1, placed (a .args .value) (a .args .codes .now) _ (sym (c .before .before .before .before .place-of .ensures) ∙ c .before .before .place .given .1) .0))
+
+enum-told : tie.Need-enum-told
+enum-told c = search needs
+
+or-lacking-requires : tie.Need-or-lacking-requires
+or-lacking-requires c κs = search needs
+
+same-length : tie.Need-same-length
+same-length c = search needs
+
+returns : tie.Need-returns
+returns c =
+    let a = c .before .before .before .before .before .before .before .before .before .before .before .before .args in
+    told-held (table (a .counts .now) (a .codes .now)) (a .value) (sym (c .before .before .before .before .before .before .before .place-of .ensures) ∙ c .before .before .before .before .before .place .given .1) (c .before .before .put-code .ensures) refl
+
+returns-2 : tie.Need-returns-2
+returns-2 c =
+    let a = c .before .before .before .before .before .before .before .before in
+    told-lacked (table (a .args .counts .now) (a .args .codes .now)) (a .args .value) (sym (c .before .before .before .place-of .ensures) ∙ c .before .enum-told .given .1) (puts-none (a .pre .0 .sound)) (c .or-lacking .ensures)
+
+pub tell-code-spec : {M : Type 1} → statement M
+tell-code-spec =
+    tie.close
+    (tie.spec
+    place-of-requires
+    enum-known-place
+    put-code-requires
+    enum-told
+    or-lacking-requires
+    same-length
+    returns
+    returns-2)

@@ -1,0 +1,57 @@
+-- `ac_writer::tell_run` meets its contract. Assumes nothing.
+use mathlib.Core.Path.{refl}
+use Prim.Native.Nat.{_*_}
+use Rattle.ac_writer.proofs.Tokens.{told-run}
+use Rattle.ac_writer.proofs.Lengths.{code-bits}
+use native.Mathlib.Omega.{arith}
+use borrow.Author.Needs.{needs}
+use Rattle.ac_writer.proofs.tell_run.Statement.{statement}
+use Rattle.ac_writer.proofs.tell_run.Tie as tie
+
+add-class-of : tie.Need-add-class-of
+add-class-of c = omega (arith, c .before .before .before .pre .1 .1)
+
+class-of-requires : tie.Need-class-of-requires
+class-of-requires c κs = search needs
+
+mul-tell-code : tie.Need-mul-tell-code
+mul-tell-code c = omega (arith, c .before .class-of .ensures .1)
+
+cast-tell-code : tie.Need-cast-tell-code
+cast-tell-code c = omega (arith, c .before .class-of .ensures .1)
+
+tell-code-requires : tie.Need-tell-code-requires
+tell-code-requires c κs = (c .before .before .before .before .before .pre .0, c .before .before .before .before .before .pre .1 .0)
+
+add-put-digits : tie.Need-add-put-digits
+add-put-digits c = omega (arith, c .before .before .before .before .before .before .before .before .before .before .pre .1 .1)
+
+cast-put-digits : tie.Need-cast-put-digits
+cast-put-digits c = omega (arith, c .before .before .before .before .before .before .before .before .before .before .pre .1 .1)
+
+put-digits-requires : tie.Need-put-digits-requires
+put-digits-requires c κs =
+    let a = c .before .before .before .before .before .before .before .before .before .before in
+    let t = c .before .before .before .before .tell-code .ensures in
+    (t .put .sound, (omega (arith, t .put .near, code-bits _ (a .pre .1 .0) (16 * c .before .before .before .before .before .before .class-of .result), a .pre .0 .near), omega (arith, c .before .before .before .before .before .before .class-of .ensures .1)))
+
+same-length : tie.Need-same-length
+same-length c = search needs
+
+returns : tie.Need-returns
+returns c = told-run (c .before .before .before .before .before .before .before .before .before .before .before .before .before .args .n) (c .before .before .before .before .before .before .before .before .before .class-of .result) (c .before .before .before .before .before .before .before .before .before .class-of .ensures .0) (c .before .before .before .before .before .before .before .tell-code .ensures) (c .before .before .put-digits .ensures) refl
+
+pub tell-run-spec : {M : Type 1} → statement M
+tell-run-spec =
+    tie.close
+    (tie.spec
+    add-class-of
+    class-of-requires
+    mul-tell-code
+    cast-tell-code
+    tell-code-requires
+    add-put-digits
+    cast-put-digits
+    put-digits-requires
+    same-length
+    returns)
