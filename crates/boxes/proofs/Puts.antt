@@ -14,7 +14,7 @@ use Rattle.packets.specs.declared.Head.{Head}
 use Rattle.packets.specs.Packets.{Packet, mineFrom, Met}
 use Rattle.boxes.specs.Order.{payloads}
 use Rattle.boxes.specs.Pass.{putAt}
-use Rattle.boxes.proofs.Passes.{part-length}
+use Rattle.packets.proofs.Walking.{part-length}
 
 pub put-nil : (d : List ℕ) (at : ℕ) → putAt d at [] ≡ d
 unfolding putAt

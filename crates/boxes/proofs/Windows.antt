@@ -20,7 +20,7 @@ use Rattle.boxes.specs.declared.Fault.the-variants.{Fine}
 use Rattle.boxes.specs.Box.{numbered, joinedFrom, joined}
 use Rattle.boxes.specs.Pass.{mineOf, faultOf, putAt, Numbered, Windowed}
 use Rattle.boxes.proofs.Order.{none-numbered, each-once, numbers-length}
-use Rattle.boxes.proofs.Passes.{part-length}
+use Rattle.packets.proofs.Walking.{part-length}
 use Rattle.boxes.proofs.Puts.{Writing, write-start, write-room, write-more}
 use Rattle.boxes.proofs.Answers.{told-fine}
 
