@@ -1,7 +1,7 @@
 -- What the words of `box_out` ask for: a type in four letters or eight hexadecimal digits, an instance in decimal.
 use Prim.Native.Nat.{ℕ, _+_, _*_, _-_}
 use mathlib.Core.List.{List, [], _∷_}
-use mathlib.Core.Bool.{Bool, true, false, cond}
+use mathlib.Core.Bool.{cond}
 use lib.ListN.{length, getD}
 use lib.Dec.{ltb, leb, eqb}
 use Rattle.laws.specs.declared.Found.{Found}

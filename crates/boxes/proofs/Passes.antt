@@ -1,5 +1,5 @@
 -- What a turn of the pass over the packets does, as laws on the list of packets that are left. Assumes nothing.
-use Prim.Native.Nat.{ℕ, zero, suc, _+_, _-_, _≤_, _<_}
+use Prim.Native.Nat.{ℕ, suc, _+_, _≤_}
 use mathlib.Core.Path.{_≡_, refl, ap, sym, subst, _∙_}
 use mathlib.Core.List.{List, [], _∷_}
 use mathlib.Core.Bool.{Bool, true, false, cond}
@@ -12,7 +12,6 @@ use Rattle.packets.specs.declared.Head.{Head}
 use Rattle.packets.specs.Packets.{Packet, packet, mineFrom, Met}
 use Rattle.packets.proofs.Walking.{part-length}
 use Rattle.numbers.specs.Numbers.{numbers}
-use Rattle.boxes.specs.declared.Scan.{Scan}
 use Rattle.boxes.specs.Box.{alike, agree, total}
 use Rattle.boxes.specs.Order.{inOrder}
 use Rattle.boxes.specs.Pass.{mineOf, Scanned}

@@ -1,21 +1,20 @@
 -- Laws of the texts and of writing them. Assumes nothing.
 use Prim.Native.Nat.{ℕ, zero, suc, _+_, _*_, _-_, _/_, _%_, _^_, _≤_, _<_}
 use mathlib.Core.Path.{_≡_, refl, ap, ap₂, sym, subst, _∙_}
-use mathlib.Core.List.{List, [], _∷_, _++_, append-nil, append-assoc}
-use mathlib.Core.Bool.{Bool, true, false, cond}
+use mathlib.Core.List.{List, [], _∷_, _++_}
+use mathlib.Core.Bool.{Bool, true, false}
 use mathlib.Core.Logic.{_⊎_, inl, inr, ⊎-elim}
 use native.Mathlib.Omega.{arith}
 use native.Mathlib.Numerals.{add-one}
 use native.Mathlib.Nat.{zero-add}
-use lib.ListN.{replicate, length, take, drop, set, getD, length-append, length-set}
-use lib.Seq.{set-out, take-suc, take-all, sets, sets-eq}
+use lib.ListN.{length, take, drop, set, length-append, length-set}
+use lib.Seq.{set-out, sets, sets-eq}
 use lib.Dec.{ltb}
 use borrow.Author.Tests.{lt-ltb, le-ltb, ltb-true, ltb-false, le-leb, lt-leb}
 use Rattle.answers.specs.Verdict.{given, refused, refusal}
 use Rattle.answers.specs.declared.Refusal.{Refusal}
 use Rattle.answers.specs.declared.Outcome.the-variants.{Given, Refused}
 use Rattle.packets.specs.declared.Head.{Head}
-use Rattle.packets.specs.declared.Step.{Step}
 use Rattle.packets.specs.declared.Step.the-variants.{End, Skip, Meet, Broken}
 use Rattle.packets.specs.Walk.{stepAt, stepsFrom, walk, ending}
 use Rattle.packets.specs.Packets.{Packet, packetsIn}

@@ -2,7 +2,7 @@
 use Prim.Native.Nat.{ℕ, zero, suc, _+_, _-_, _≤_, _<_}
 use mathlib.Core.Path.{_≡_, refl, ap, sym, subst, _∙_}
 use mathlib.Core.List.{List, [], _∷_}
-use mathlib.Core.Bool.{Bool, true, false, cond}
+use mathlib.Core.Bool.{Bool, true, false}
 use native.Mathlib.Omega.{arith}
 use lib.ListN.{length, getD, take, drop, length-drop}
 use lib.Seq.{length-take-le}
@@ -11,7 +11,6 @@ use borrow.Author.Tests.{le-leb, ltb-false, leb-false}
 use Rattle.laws.proofs.Choices.{by-test}
 use Rattle.answers.specs.Verdict.{refusal}
 use Rattle.answers.specs.declared.Refusal.{Refusal}
-use Rattle.answers.specs.declared.Outcome.{Outcome}
 use Rattle.answers.specs.declared.Outcome.the-variants.{Given, Refused}
 use Rattle.packets.specs.declared.Head.{Head}
 use Rattle.packets.specs.declared.Step.{Step}
@@ -19,7 +18,7 @@ use Rattle.packets.specs.declared.Step.the-variants.{End, Skip, Meet, Br
 use Rattle.packets.specs.declared.Next.{Next}
 use Rattle.packets.specs.declared.Next.the-variants.{Gone, Mine}
 use Rattle.packets.specs.Walk.{be16, headAt, ones, barred, tagged, packetAt, wholeAt, sizedAt, markedAt, stepAt, onward, stepsIn, stepsFrom, begins, walk, ending}
-use Rattle.packets.specs.Packets.{Packet, packet, packetsIn, packets, isMine, mine, mineFrom, Met, NextIs}
+use Rattle.packets.specs.Packets.{packet, packetsIn, packets, isMine, mine, mineFrom, Met, NextIs}
 use Rattle.packets.proofs.Runs.{ones-end}
 
 -- a step goes forward, and stays in the file
