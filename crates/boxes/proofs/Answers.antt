@@ -1,11 +1,10 @@
 -- From what the passes find to the verdict, case by case. Assumes nothing.
-use Prim.Native.Nat.{ℕ, zero, suc, _+_, _-_, _≤_, _<_}
-use mathlib.Core.Path.{_≡_, refl, ap, ap₂, sym, subst, _∙_}
-use mathlib.Core.List.{List, [], _∷_, _++_}
-use mathlib.Core.Bool.{Bool, true, false, cond}
+use Prim.Native.Nat.{ℕ, _≤_, _<_}
+use mathlib.Core.Path.{_≡_, refl, ap, sym, subst, _∙_}
+use mathlib.Core.List.{List, []}
+use mathlib.Core.Bool.{Bool, true, false}
 use native.Mathlib.Omega.{arith}
-use lib.ListN.{length, drop}
-use lib.Dec.{eqb, leb}
+use lib.ListN.{length}
 use borrow.Author.Tests.{eq-eqb, ne-eqb, le-leb, lt-leb}
 use Rattle.laws.specs.declared.Found.{Found}
 use Rattle.laws.specs.declared.Found.the-variants.{At, Nothing}
@@ -15,13 +14,12 @@ use Rattle.answers.specs.declared.Refusal.{Refusal}
 use Rattle.answers.specs.declared.Outcome.the-variants.{Given, Refused}
 use Rattle.packets.specs.declared.Head.{Head}
 use Rattle.packets.specs.Walk.{walk, ending}
-use Rattle.packets.specs.Packets.{Packet, mineFrom, Met}
+use Rattle.packets.specs.Packets.{Packet, Met}
 use Rattle.packets.proofs.Walking.{mine-all}
 use Rattle.numbers.specs.Numbers.{numbers, numbersFrom, twice, missingFrom, missing}
 use Rattle.numbers.proofs.Smallest.{pigeonhole}
-use Rattle.boxes.specs.declared.Fault.{Fault}
 use Rattle.boxes.specs.declared.Fault.the-variants.{Fine, Twice, Missing}
-use Rattle.boxes.specs.Box.{agree, contents, total, joined, assembled, assemble, afterWalk, boxOf}
+use Rattle.boxes.specs.Box.{agree, contents, total, joined, assembled, assemble, boxOf}
 use Rattle.boxes.specs.Order.{payloads, inOrder}
 use Rattle.boxes.specs.Pass.{mineOf, faultBy, faultOf, Numbered, Whole, ReadyIs, putAt}
 use Rattle.boxes.specs.declared.Ready.{Ready}

@@ -2,7 +2,7 @@
 use Prim.Native.Nat.{ℕ}
 use mathlib.Core.Path.{_≡_, refl}
 use mathlib.Core.List.{List, [], _∷_, _++_}
-use Rattle.answers.specs.Verdict.{Verdict, given, refused, refusal}
+use Rattle.answers.specs.Verdict.{given, refused, refusal}
 use Rattle.packets.specs.Walk.{be16, be32, headAt, ones, barred, tagged, packetAt, wholeAt, sizedAt, markedAt, stepAt, stepsIn, stepsFrom, begins, walk, ending}
 use Rattle.packets.specs.Packets.{packetsIn, packets, isMine, mine}
 use Rattle.numbers.specs.Numbers.{numbers, count, least, twice, missingFrom, missing}

@@ -11,7 +11,7 @@ use borrow.Author.Tests.{eq-eqb, ne-eqb, eqb-true, eqb-false, le-leb, leb-true}
 use Rattle.laws.specs.declared.Found.{Found}
 use Rattle.laws.specs.declared.Found.the-variants.{At, Nothing}
 use Rattle.laws.proofs.Choices.{either, cond-left, cond-right, cond-swap}
-use Rattle.answers.specs.Verdict.{Verdict, given, refused, refusal, need, unless, fitting}
+use Rattle.answers.specs.Verdict.{Verdict, given, refused, need, unless, fitting}
 use Rattle.answers.specs.declared.Refusal.{Refusal}
 use Rattle.answers.specs.declared.Outcome.{Outcome}
 use Rattle.answers.specs.declared.Outcome.the-variants.{Given, Refused}
@@ -19,8 +19,8 @@ use Rattle.packets.specs.declared.Head.{Head}
 use Rattle.packets.specs.Walk.{walk, ending}
 use Rattle.packets.specs.Packets.{Packet, packets, mine}
 use Rattle.packets.proofs.Walking.{ended}
-use Rattle.numbers.specs.Numbers.{numbers, count, twice, missingFrom, missing}
-use Rattle.numbers.proofs.Counts.{numbers-append, count-here, count-other, count-grows}
+use Rattle.numbers.specs.Numbers.{numbers, count, twice, missing}
+use Rattle.numbers.proofs.Counts.{numbers-append, count-grows}
 use Rattle.numbers.proofs.Smallest.{never-twice, twice-none, never-missing, missing-none}
 use Rattle.boxes.specs.Box.{alike, agree, contents, total, numbered, joinedFrom, joined, assembled, assemble, afterWalk, boxOf}
 use Rattle.boxes.specs.Order.{Reordered, none, keep, swap, both, counting, payloads, Makes, HandedOut, inOrder}

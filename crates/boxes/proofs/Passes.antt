@@ -1,24 +1,20 @@
 -- What a turn of the pass over the packets does, as laws on the list of packets that are left. Assumes nothing.
-use Prim.Native.Nat.{ℕ, zero, suc, _+_, _-_, _≤_, _<_}
+use Prim.Native.Nat.{ℕ, suc, _+_, _≤_}
 use mathlib.Core.Path.{_≡_, refl, ap, sym, subst, _∙_}
 use mathlib.Core.List.{List, [], _∷_}
 use mathlib.Core.Bool.{Bool, true, false, cond}
 use native.Mathlib.Omega.{arith}
 use native.Mathlib.Numerals.{add-one}
-use lib.ListN.{length, take, drop, length-drop}
-use lib.Seq.{length-take-le}
+use lib.ListN.{length, take, drop}
 use lib.Dec.{eqb}
 use Rattle.laws.proofs.Choices.{cond-cond, cond-id}
 use Rattle.packets.specs.declared.Head.{Head}
 use Rattle.packets.specs.Packets.{Packet, packet, mineFrom, Met}
+use Rattle.packets.proofs.Walking.{part-length}
 use Rattle.numbers.specs.Numbers.{numbers}
-use Rattle.boxes.specs.declared.Scan.{Scan}
 use Rattle.boxes.specs.Box.{alike, agree, total}
 use Rattle.boxes.specs.Order.{inOrder}
 use Rattle.boxes.specs.Pass.{mineOf, Scanned}
-
-pub part-length : (file : List ℕ) (start len : ℕ) → start + len ≤ length file → length (take len (drop start file)) ≡ len
-part-length file start len h = length-take-le len (drop start file) (simp length-drop (omega arith))
 
 -- counts, totals and tests of what was met and what is left
 record Scanning (all rest : List Packet) (h : Head) (n tot : ℕ) (ag ord : Bool) : Type 0 where

@@ -1,20 +1,17 @@
 -- Laws of `putAt`: bytes written at a position of a list.
-use Prim.Native.Nat.{ℕ, zero, suc, _+_, _-_, _≤_, _<_}
-use mathlib.Core.Path.{_≡_, refl, ap, ap₂, sym, subst, _∙_}
-use mathlib.Core.List.{List, [], _∷_, _++_, append-nil, append-assoc}
+use Prim.Native.Nat.{ℕ, _+_, _≤_, _<_}
+use mathlib.Core.Path.{_≡_, refl, ap, ap₂, sym, _∙_}
+use mathlib.Core.List.{List, [], _∷_, _++_, append-assoc}
 use native.Mathlib.Omega.{arith}
 use native.Mathlib.Nat.{zero-add}
 use native.Mathlib.Numerals.{add-one}
-use borrow.Author.Fill.{fill-more}
-use lib.ListN.{length, take, drop, set, getD, replicate, length-drop, length-append}
-use lib.Seq.{length-take-le, take-at, drop-append-add, drop-drop, drop-length, getD-drop, paste, paste-zero, paste-suc}
-use borrow.Author.Tests.{eq-eqb, ne-eqb}
-use Rattle.boxes.specs.Box.{joinedFrom, joined}
+use lib.ListN.{length, take, drop, set, getD, length-drop, length-append}
+use lib.Seq.{length-take-le, take-at, drop-append-add, drop-drop, getD-drop, paste, paste-zero, paste-suc}
 use Rattle.packets.specs.declared.Head.{Head}
 use Rattle.packets.specs.Packets.{Packet, mineFrom, Met}
 use Rattle.boxes.specs.Order.{payloads}
 use Rattle.boxes.specs.Pass.{putAt}
-use Rattle.boxes.proofs.Passes.{part-length}
+use Rattle.packets.proofs.Walking.{part-length}
 
 pub put-nil : (d : List ℕ) (at : ℕ) → putAt d at [] ≡ d
 unfolding putAt

@@ -3,10 +3,9 @@ use Prim.Native.Nat.{ℕ, zero, suc, _+_, _-_, _≤_, _<_}
 use mathlib.Core.Path.{_≡_, refl, ap, ap₂, sym, subst, _∙_}
 use mathlib.Core.Logic.{⊎-elim}
 use mathlib.Core.List.{List, [], _∷_, _++_, append-nil, append-assoc}
-use mathlib.Core.Bool.{Bool, true, false, cond}
 use native.Mathlib.Omega.{arith}
 use native.Mathlib.Numerals.{add-one}
-use lib.ListN.{length, getD, take, drop, length-append}
+use lib.ListN.{length, getD, take, drop}
 use lib.Dec.{eqb}
 use borrow.Author.Tests.{eq-eqb}
 use Rattle.laws.proofs.Choices.{either}
@@ -14,13 +13,11 @@ use Rattle.packets.specs.declared.Head.{Head}
 use Rattle.packets.specs.Packets.{Packet, packet, mineFrom, Met}
 use Rattle.numbers.specs.Numbers.{numbers, numbersFrom, count}
 use Rattle.numbers.proofs.Counts.{numbers-met, numbers-gone, numbers-append, count-append, count-here}
-use Rattle.numbers.proofs.Smallest.{never-twice}
 use Rattle.windows.specs.Places.{Stands, PlaceOf, Located}
-use Rattle.boxes.specs.declared.Fault.the-variants.{Fine}
 use Rattle.boxes.specs.Box.{numbered, joinedFrom, joined}
-use Rattle.boxes.specs.Pass.{mineOf, faultOf, putAt, Numbered, Windowed}
-use Rattle.boxes.proofs.Order.{none-numbered, each-once, numbers-length}
-use Rattle.boxes.proofs.Passes.{part-length}
+use Rattle.boxes.specs.Pass.{mineOf, putAt, Windowed}
+use Rattle.boxes.proofs.Order.{none-numbered, each-once}
+use Rattle.packets.proofs.Walking.{part-length}
 use Rattle.boxes.proofs.Puts.{Writing, write-start, write-room, write-more}
 use Rattle.boxes.proofs.Answers.{told-fine}
 

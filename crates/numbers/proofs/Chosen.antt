@@ -1,5 +1,5 @@
 -- Laws of the search by windows: what a turn of each pass does, and what a window says of its numbers. Assumes nothing.
-use Prim.Native.Nat.{ℕ, zero, suc, _+_, _≤_, _<_}
+use Prim.Native.Nat.{ℕ, suc, _+_, _≤_, _<_}
 use mathlib.Core.Path.{_≡_, refl, ap, sym, subst, _∙_}
 use mathlib.Core.Logic.{⊎-elim}
 use mathlib.Core.List.{List, [], _∷_, _++_, append-nil, append-assoc}
@@ -7,14 +7,14 @@ use mathlib.Core.Bool.{Bool, true, false, cond}
 use native.Mathlib.Omega.{arith}
 use native.Mathlib.Numerals.{add-one}
 use lib.ListN.{length, take, drop, set, getD, length-set}
-use lib.Seq.{take-suc-set, drop-cons, append-snoc}
+use lib.Seq.{take-suc-set, drop-cons}
 use lib.Dec.{eqb, ltb}
 use borrow.Author.Tests.{eqb-true, eqb-false, ltb-true, ltb-false}
 use Rattle.laws.specs.declared.Found.{Found}
 use Rattle.laws.specs.declared.Found.the-variants.{At, Nothing}
 use Rattle.laws.proofs.Choices.{either}
 use Rattle.numbers.specs.Numbers.{count, twice, within, between, chosen, TwiceIn}
-use Rattle.numbers.proofs.Counts.{count-here, count-other, count-grows}
+use Rattle.numbers.proofs.Counts.{count-other}
 use Rattle.numbers.proofs.Smallest.{within-true, within-told, never-twice, smallest-twice, twice-is, twice-none}
 
 -- ---- a pass that counts
@@ -121,16 +121,6 @@ gather-end {lo} {hi} {all} {rest} {held} {held₀} {k} g e =
 
 pub drop-next : (ns : List ℕ) (i : ℕ) → i < length ns → drop i ns ≡ getD ns i 0 ∷ drop (i + 1) ns
 drop-next ns i l = drop-cons ns i 0 l ∙ ap (λ (k : ℕ). getD ns i 0 ∷ drop k ns) (sym (add-one i))
-
-pub stands-turn : (ns : List ℕ) (n i q : ℕ) {t : ℕ} → n + count q (drop i ns) ≡ t → i < length ns → cond (eqb (getD ns i 0) q) (n + 1) n + count q (drop (i + 1) ns) ≡ t
-unfolding count
-stands-turn ns n i q {t} h l =
-    let e : drop i ns ≡ getD ns i 0 ∷ drop (i + 1) ns = drop-next ns i l in
-    let g : n + count q (getD ns i 0 ∷ drop (i + 1) ns) ≡ t = (rw e at h) in
-    ⊎-elim
-    (λ u. let v : n + suc (count q (drop (i + 1) ns)) ≡ t = (rw u at g) in rw u (omega arith))
-    (λ u. let v : n + count q (drop (i + 1) ns) ≡ t = (rw u at g) in rw u (omega arith))
-    (either (eqb (getD ns i 0) q))
 
 -- ---- what a window says
 

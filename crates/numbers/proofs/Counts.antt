@@ -1,20 +1,18 @@
 -- Laws of `count`, `twice` and `missing`: what a turn of a loop does, what they say of every number, and the pigeonhole. Assumes nothing.
-use Prim.Native.Nat.{ℕ, zero, suc, _+_, _-_, _≤_, _<_, min}
-use mathlib.Core.Path.{_≡_, refl, ap, sym, subst, _∙_}
+use Prim.Native.Nat.{ℕ, zero, suc, _+_, _≤_}
+use mathlib.Core.Path.{_≡_, refl, ap, _∙_}
 use mathlib.Core.List.{List, [], _∷_, _++_}
 use mathlib.Core.Bool.{Bool, true, false, cond}
 use mathlib.Core.Logic.{⊎-elim}
 use native.Mathlib.Omega.{arith}
-use native.Mathlib.Numerals.{add-one}
-use lib.ListN.{length}
 use lib.Dec.{eqb}
-use borrow.Author.Tests.{eq-eqb, ne-eqb, eqb-true, eqb-false}
+use borrow.Author.Tests.{eq-eqb, ne-eqb}
 use Rattle.laws.specs.declared.Found.{Found}
 use Rattle.laws.specs.declared.Found.the-variants.{At, Nothing}
-use Rattle.laws.proofs.Choices.{either, at-one, at-nothing}
-use Rattle.packets.specs.Packets.{Packet, packet, Met, mineFrom}
+use Rattle.laws.proofs.Choices.{either}
+use Rattle.packets.specs.Packets.{Packet, Met, mineFrom}
 use Rattle.packets.specs.declared.Head.{Head}
-use Rattle.numbers.specs.Numbers.{numbers, numbersFrom, count, least, twice, missingFrom, missing}
+use Rattle.numbers.specs.Numbers.{numbers, numbersFrom, count, least, twice, missingFrom}
 
 -- ---- the numbers of a pass
 
@@ -96,16 +94,6 @@ unfolding twice
 twice-end ns w h e = least-right w ∙ (rw e at h)
 
 -- ---- the smallest number that is missing
-
-pub missing-more : (ns : List ℕ) (k q : ℕ) → 0 < k → (count q ns ≡ 0 → ⊥) → missingFrom k q ns ≡ missingFrom (k - 1) (q + 1) ns
-unfolding missingFrom
-missing-more ns zero q h f = absurd (omega arith)
-missing-more ns (suc k) q h f = let e : suc k - 1 ≡ k = omega arith in rw (ne-eqb (count q ns) 0 f, e, add-one)
-
-pub missing-here : (ns : List ℕ) (k q : ℕ) → 0 < k → count q ns ≡ 0 → missingFrom k q ns ≡ At q
-unfolding missingFrom
-missing-here ns zero q h f = absurd (omega arith)
-missing-here ns (suc k) q h f = rw (eq-eqb (count q ns) 0 f)
 
 pub missing-done : (ns : List ℕ) (k q : ℕ) → k ≡ 0 → missingFrom k q ns ≡ Nothing
 unfolding missingFrom

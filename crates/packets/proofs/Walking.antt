@@ -2,15 +2,15 @@
 use Prim.Native.Nat.{ℕ, zero, suc, _+_, _-_, _≤_, _<_}
 use mathlib.Core.Path.{_≡_, refl, ap, sym, subst, _∙_}
 use mathlib.Core.List.{List, [], _∷_}
-use mathlib.Core.Bool.{Bool, true, false, cond}
+use mathlib.Core.Bool.{Bool, true, false}
 use native.Mathlib.Omega.{arith}
-use lib.ListN.{length, getD, take, drop}
+use lib.ListN.{length, getD, take, drop, length-drop}
+use lib.Seq.{length-take-le}
 use lib.Dec.{eqb, ltb, leb}
 use borrow.Author.Tests.{le-leb, ltb-false, leb-false}
 use Rattle.laws.proofs.Choices.{by-test}
 use Rattle.answers.specs.Verdict.{refusal}
 use Rattle.answers.specs.declared.Refusal.{Refusal}
-use Rattle.answers.specs.declared.Outcome.{Outcome}
 use Rattle.answers.specs.declared.Outcome.the-variants.{Given, Refused}
 use Rattle.packets.specs.declared.Head.{Head}
 use Rattle.packets.specs.declared.Step.{Step}
@@ -18,7 +18,7 @@ use Rattle.packets.specs.declared.Step.the-variants.{End, Skip, Meet, Br
 use Rattle.packets.specs.declared.Next.{Next}
 use Rattle.packets.specs.declared.Next.the-variants.{Gone, Mine}
 use Rattle.packets.specs.Walk.{be16, headAt, ones, barred, tagged, packetAt, wholeAt, sizedAt, markedAt, stepAt, onward, stepsIn, stepsFrom, begins, walk, ending}
-use Rattle.packets.specs.Packets.{Packet, packet, packetsIn, packets, isMine, mine, mineFrom, Met, NextIs}
+use Rattle.packets.specs.Packets.{packet, packetsIn, packets, isMine, mine, mineFrom, Met, NextIs}
 use Rattle.packets.proofs.Runs.{ones-end}
 
 -- a step goes forward, and stays in the file
@@ -189,10 +189,18 @@ ended (Skip next ∷ r) n e = ended r n e
 ended (Meet head start len next ∷ r) n e = ended r n e
 
 -- of a walk that ends well, the packets are those from position 2 on
-pub mine-all : (file : List ℕ) (kind instance count : ℕ) → ending (walk file) ≡ Given count → mine kind instance (packets file) ≡ mineFrom file kind instance 2
-unfolding mineFrom packets
-mine-all file kind instance count h = go (begins file) refl
+pub packets-all : (file : List ℕ) (count : ℕ) → ending (walk file) ≡ Given count → packets file ≡ packetsIn file (stepsFrom file 2)
+unfolding packets
+packets-all file count h = go (begins file) refl
   where
-    go : (b : Bool) → begins file ≡ b → mine kind instance (packetsIn file (walk file)) ≡ mine kind instance (packetsIn file (stepsFrom file 2))
-    go true e = ap (λ (steps : List Step). mine kind instance (packetsIn file steps)) (walk-begun file e)
+    go : (b : Bool) → begins file ≡ b → packetsIn file (walk file) ≡ packetsIn file (stepsFrom file 2)
+    go true e = ap (packetsIn file) (walk-begun file e)
     go false e = let f = sym (walk-not file e) ∙ h in let z : _≡_ {A = ℕ} 0 1 = cc in let y : ⊥ = omega arith in absurd y
+
+pub mine-all : (file : List ℕ) (kind instance count : ℕ) → ending (walk file) ≡ Given count → mine kind instance (packets file) ≡ mineFrom file kind instance 2
+unfolding mineFrom
+mine-all file kind instance count h = ap (mine kind instance) (packets-all file count h)
+
+-- a payload that ends in the file has its length
+pub part-length : (file : List ℕ) (start len : ℕ) → start + len ≤ length file → length (take len (drop start file)) ≡ len
+part-length file start len h = length-take-le len (drop start file) (simp length-drop (omega arith))

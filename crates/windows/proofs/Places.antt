@@ -3,12 +3,12 @@ use Prim.Native.Nat.{ℕ, zero, suc, _+_, _-_, _≤_, _<_}
 use mathlib.Core.Path.{_≡_, refl, ap, sym, subst, _∙_}
 use mathlib.Core.Logic.{_⊎_, inl, inr, ⊎-elim}
 use mathlib.Core.List.{List, [], _∷_, _++_, append-nil, append-assoc}
-use mathlib.Core.Bool.{Bool, true, false, cond}
+use mathlib.Core.Bool.{true, false}
 use native.Mathlib.Omega.{arith}
-use lib.ListN.{length, getD, set, replicate, length-set}
-use lib.Seq.{getD-set-same, getD-set-other, append-snoc}
+use lib.ListN.{length, getD, replicate, length-set}
+use lib.Seq.{getD-set-same, getD-set-other}
 use lib.Dec.{eqb, ltb, leb}
-use borrow.Author.Tests.{eqb-true, eqb-false, le-leb, lt-leb, leb-true, leb-false, ltb-true, ltb-false}
+use borrow.Author.Tests.{eqb-true, eqb-false, lt-leb, leb-false, ltb-true, ltb-false}
 use Rattle.laws.specs.declared.Found.{Found}
 use Rattle.laws.specs.declared.Found.the-variants.{At, Nothing}
 use Rattle.laws.specs.First.{firstFail}
@@ -19,7 +19,7 @@ use Rattle.packets.specs.Packets.{Packet, packet, mineFrom, Met}
 use Rattle.numbers.specs.Numbers.{numbers, numbersFrom, count, missingFrom}
 use Rattle.numbers.proofs.Counts.{numbers-met, numbers-append, count-append, count-none, count-here, count-other}
 use Rattle.numbers.proofs.Smallest.{missing-is, missing-more-than}
-use Rattle.windows.specs.Places.{Stands, PlaceOf, Located, marked}
+use Rattle.windows.specs.Places.{Stands, Located, marked}
 
 -- ---- a store
 

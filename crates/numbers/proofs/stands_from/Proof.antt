@@ -1,6 +1,6 @@
 -- `numbers::stands_from` meets its contract: what was counted and what is left make the whole count.
-use Rattle.numbers.proofs.Chosen.{stands-turn}
-use Rattle.numbers.proofs.Counts.{count-end}
+use Rattle.numbers.proofs.Chosen.{drop-next}
+use Rattle.numbers.proofs.Counts.{count-turn, count-end}
 use Rattle.numbers.specs.Numbers.{count}
 use lib.ListN.{length, drop, drop-of-length-le}
 use Prim.Native.Nat.{_+_, _-_, _≤_}
@@ -35,7 +35,7 @@ loop-less : tie.Need-loop-less Inv-loop μ-loop
 loop-less c = search needs
 
 loop-again : tie.Need-loop-again Inv-loop μ-loop
-loop-again c = (rw (c .tick .ensures .0) (stands-turn (c .before .before .before .before .before .args .held .now) (c .before .before .before .loop .n) (c .before .before .before .loop .i) (c .before .before .before .before .before .args .q) (c .before .before .before .loop .inv .0) (search needs)), omega arith, omega arith)
+loop-again c = (rw (c .tick .ensures .0) (count-turn _ _ _ (c .before .before .before .loop .inv .0) (drop-next (c .before .before .before .before .before .args .held .now) (c .before .before .before .loop .i) (search needs))), omega arith, omega arith)
 
 returns : tie.Need-returns Inv-loop μ-loop
 returns c = count-end _ _ _ (c .before .loop .inv .0) (drop-of-length-le (c .before .before .before .args .held .now) {i = c .before .loop .i} (omega arith))

@@ -1,0 +1,58 @@
+-- `asking::digit` meets its contract: each return goes by the tests that led there.
+use Rattle.asking.specs.Words.{digit, readFrom, typeOf, instanceOf}
+use mathlib.Core.Path.{_≡_, refl, sym, ap, subst, _∙_}
+use native.Mathlib.Omega.{arith}
+use borrow.Author.Tests.{lt-ltb, le-ltb, le-leb, lt-leb, eq-eqb, ne-eqb, not-true, not-false}
+use borrow.Author.Needs.{needs}
+use Rattle.asking.proofs.digit.Statement.{statement}
+use Rattle.asking.proofs.digit.Tie as tie
+use Rattle.asking.proofs.digit.Reads as reads
+use Rattle.asking.proofs.digit.Lts as lts
+
+returns : tie.Need-returns
+unfolding digit
+returns c = simp (lt-ltb _ _ (c .if1 .taken)) (refl, omega arith)
+
+returns-2 : tie.Need-returns-2
+unfolding digit
+returns-2 c = simp (le-ltb _ _ (c .before .if1 .left), lt-ltb _ _ (c .if2 .taken)) (refl, omega arith)
+
+returns-3 : tie.Need-returns-3
+unfolding digit
+returns-3 c = simp (le-ltb _ _ (c .before .before .if1 .left), le-ltb _ _ (c .before .if2 .left), lt-ltb _ _ (c .if3 .taken)) (refl, omega arith)
+
+sub-result : tie.Need-sub-result
+sub-result c = search needs
+
+returns-4 : tie.Need-returns-4
+unfolding digit
+returns-4 c = simp (le-ltb _ _ (c .before .before .before .if1 .left), le-ltb _ _ (c .before .before .if2 .left), le-ltb _ _ (c .before .if3 .left), lt-ltb _ _ (c .if4 .taken)) (refl, omega arith)
+
+returns-5 : tie.Need-returns-5
+unfolding digit
+returns-5 c = simp (le-ltb _ _ (c .before .before .before .before .if1 .left), le-ltb _ _ (c .before .before .before .if2 .left), le-ltb _ _ (c .before .before .if3 .left), le-ltb _ _ (c .before .if4 .left), lt-ltb _ _ (c .if5 .taken)) (refl, omega arith)
+
+sub-result-2 : tie.Need-sub-result-2
+sub-result-2 c = search needs
+
+returns-6 : tie.Need-returns-6
+unfolding digit
+returns-6 c = simp (le-ltb _ _ (c .before .before .before .before .before .if1 .left), le-ltb _ _ (c .before .before .before .before .if2 .left), le-ltb _ _ (c .before .before .before .if3 .left), le-ltb _ _ (c .before .before .if4 .left), le-ltb _ _ (c .before .if5 .left), lt-ltb _ _ (c .if6 .taken)) (refl, omega arith)
+
+returns-7 : tie.Need-returns-7
+unfolding digit
+returns-7 c = simp (le-ltb _ _ (c .before .before .before .before .before .if1 .left), le-ltb _ _ (c .before .before .before .before .if2 .left), le-ltb _ _ (c .before .before .before .if3 .left), le-ltb _ _ (c .before .before .if4 .left), le-ltb _ _ (c .before .if5 .left), le-ltb _ _ (c .if6 .left)) (refl, omega arith)
+
+pub digit-spec : {M : Type 1} → statement M
+digit-spec =
+    tie.close
+    (tie.spec
+    returns
+    returns-2
+    returns-3
+    sub-result
+    returns-4
+    returns-5
+    sub-result-2
+    returns-6
+    returns-7)

@@ -1,0 +1,68 @@
+-- 01, "The listing program": the text of the listing.
+use Prim.Native.Nat.{ℕ, zero, suc, _+_, _/_, _%_}
+use mathlib.Core.Path.{_≡_}
+use mathlib.Core.List.{List, [], _∷_, _++_}
+use mathlib.Core.Bool.{cond}
+use lib.ListN.{length, set}
+use lib.Dec.{ltb}
+use Rattle.answers.specs.Verdict.{Verdict, fitting}
+use Rattle.answers.specs.declared.Outcome.{Outcome}
+use Rattle.answers.specs.declared.Outcome.the-variants.{Given, Refused}
+use Rattle.packets.specs.Walk.{walk, ending}
+use Rattle.packets.specs.Packets.{Packet, packets}
+
+-- "numbers decimal"; fuel n is enough, since n / 10 is less than n
+unfoldable pub decIn : ℕ → ℕ → List ℕ
+decIn zero n = (48 + n) ∷ []
+decIn (suc k) n = cond (ltb n 10) ((48 + n) ∷ []) (decIn k (n / 10) ++ ((48 + n % 10) ∷ []))
+
+unfoldable pub dec : ℕ → List ℕ
+dec n = decIn n n
+
+-- the last k digits in hexadecimal, A to F for 10 to 15
+unfoldable pub glyph : ℕ → ℕ
+glyph d = cond (ltb d 10) (48 + d) (55 + d)
+
+unfoldable pub hex : ℕ → ℕ → List ℕ
+hex zero n = []
+hex (suc k) n = hex k (n / 16) ++ (glyph (n % 16) ∷ [])
+
+-- "instance number bytes type\n"
+unfoldable pub header : List ℕ
+header = 105 ∷ 110 ∷ 115 ∷ 116 ∷ 97 ∷ 110 ∷ 99 ∷ 101 ∷ 32 ∷ 110 ∷ 117 ∷ 109 ∷ 98 ∷ 101 ∷ 114 ∷ 32 ∷ 98 ∷ 121 ∷ 116 ∷ 101 ∷ 115 ∷ 32 ∷ 116 ∷ 121 ∷ 112 ∷ 101 ∷ 10 ∷ []
+
+-- "instance number bytes type", "`bytes` the packet's own payload"
+unfoldable pub line : ℕ → ℕ → ℕ → ℕ → List ℕ
+line instance number bytes kind = dec instance ++ (32 ∷ (dec number ++ (32 ∷ (dec bytes ++ (32 ∷ (hex 8 kind ++ (10 ∷ [])))))))
+
+-- "Lines stand in file order"
+unfoldable pub lines : List Packet → List ℕ
+lines [] = []
+lines (p ∷ r) = line (p .head .instance) (p .head .number) (length (p .payload)) (p .head .kind) ++ lines r
+
+-- "answer N P\n"
+unfoldable pub answer : ℕ → ℕ → List ℕ
+answer n p = 97 ∷ 110 ∷ 115 ∷ 119 ∷ 101 ∷ 114 ∷ 32 ∷ (dec n ++ (32 ∷ (dec p ++ (10 ∷ []))))
+
+-- "a refused walk gives the header and `answer` with number and place only"
+abbrev pub afterWalk : Outcome → List ℕ → List ℕ
+afterWalk (Given count) ls = ls ++ answer 0 0
+afterWalk (Refused r) ls = answer (r .number) (r .place)
+
+-- "a file of at most 64 KiB"; "A longer input gives the header and `answer 20 0`"
+unfoldable pub listing : List ℕ → List ℕ
+listing file = header ++ cond (ltb 65536 (length file)) (answer 20 0) (afterWalk (ending (walk file)) (lines (packets file)))
+
+-- the listing in a lent buffer
+unfoldable pub listed : List ℕ → ℕ → Verdict ℕ
+listed file room = fitting room (listing file)
+
+-- a text stored from a position on, as far as there is room
+unfoldable pub write : List ℕ → ℕ → List ℕ → List ℕ
+write d at [] = d
+write d at (x ∷ r) = write (set d at x) (at + 1) r
+
+-- the text b stands from `at` on, as far as there is room, and r is the position after it
+pub record Wrote (d d′ : List ℕ) (at r : ℕ) (b : List ℕ) : Type 0 where
+  pub text : d′ ≡ write d at b
+  pub next : r ≡ at + length b
