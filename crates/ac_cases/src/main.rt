@@ -43,23 +43,40 @@ fn read_one(name: &[u8], codes: &[u8], data: &[u8], first: i32, last: i32) {
     say(b"\n");
 }
 
-fn main() {
-    // Table T: values 00, 01, F0.
-    read_one(b"new-value", b"\x00\x01\xF0", b"\x67", 0, 0);
-    read_one(b"corrected", b"\x00\x01\xF0", b"\x3F", 3, 0);
-    read_one(b"both", b"\x00\x01\xF0", b"\x43", 3, 0);
-    read_one(b"bad-padding", b"\x00\x01\xF0", b"\x43", 0, 0);
-    read_one(b"no-data", b"\x00\x01\xF0", b"", 0, 0);
-    // What these five do not meet: the sign before the correction, 16 zeros, each refusal of a bit or a code.
-    read_one(b"sign-first", b"\x00\x01\xF0", b"\x63", 3, 0);
-    read_one(b"sixteen-zeros", b"\x00\x01\xF0", b"\x99", 0, 0);
-    read_one(b"no-place", b"\x00\x01\xF0", b"\xAA", 0, 0);
-    read_one(b"no-bit-on-the-way", b"\x00\x01\xF0", b"\xAA", 0, 3);
-    read_one(b"no-place-then", b"\x00\x01\xF0", b"\xAA\x80", 0, 3);
+// Plane 1 of one block with table T: values 00, 01, F0.
+fn read_with_t(name: &[u8], data: &[u8], first: i32, last: i32) {
+    read_one(name, b"\x00\x01\xF0", data, first, last);
+}
+
+fn case_c() {
+    read_with_t(b"new-value", b"\x67", 0, 0);
+    read_with_t(b"corrected", b"\x3F", 3, 0);
+    read_with_t(b"both", b"\x43", 3, 0);
+    read_with_t(b"bad-padding", b"\x43", 0, 0);
+    read_with_t(b"no-data", b"", 0, 0);
+}
+
+// The sign before the correction, 16 zeros, the walk that passes position 63.
+fn walks() {
+    read_with_t(b"sign-first", b"\x63", 3, 0);
+    read_with_t(b"sixteen-zeros", b"\x99", 0, 0);
+    read_with_t(b"no-place", b"\xAA", 0, 0);
+    read_with_t(b"no-bit-on-the-way", b"\xAA", 0, 3);
+    read_with_t(b"no-place-then", b"\xAA\x80", 0, 3);
+}
+
+// Each other refusal of a bit, a code, a table or a value.
+fn refusals() {
     read_one(b"run-too-long", b"\x10\x01\xF0", b"\x3F", 0, 0);
     read_one(b"code-not-used", b"\x00\x01\x02", b"\x80", 0, 0);
-    read_one(b"no-code", b"\x00\x01\xF0", b"\xFF\x00\xFF\x00", 0, 0);
-    read_one(b"marker", b"\x00\x01\xF0", b"\xFF\x01", 0, 0);
+    read_with_t(b"no-code", b"\xFF\x00\xFF\x00", 0, 0);
+    read_with_t(b"marker", b"\xFF\x01", 0, 0);
     read_one(b"bad-table", b"\x00\x01\x01", b"\x67", 0, 0);
-    read_one(b"out-of-range", b"\x00\x01\xF0", b"\x67", 0, 2048);
+    read_with_t(b"out-of-range", b"\x67", 0, 2048);
+}
+
+fn main() {
+    case_c();
+    walks();
+    refusals();
 }

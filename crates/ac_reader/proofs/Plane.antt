@@ -1,8 +1,8 @@
 -- The loop over the blocks of a plane: what is left to read, behind the values read so far, is the whole. Assumes nothing.
 use mathlib.Core.Path.{_≡_, refl, sym, ap, subst, _∙_}
-use mathlib.Core.List.{List, [], _∷_, _++_, append-nil}
+use mathlib.Core.List.{List, [], _∷_, append-nil}
 use mathlib.Core.Logic.{_⊎_, inl, inr}
-use mathlib.Core.Option.{Option, none}
+use mathlib.Core.Option.{none}
 use Prim.Native.Nat.{ℕ, zero, suc, _+_, _-_, _*_, _≤_, _<_}
 use native.Mathlib.Numerals.{add-one}
 use native.Mathlib.Omega.{arith}
@@ -13,13 +13,12 @@ use borrow.Rule.Slice.PartMut.{putMid, drop-put, same-len-mid, mid-len}
 use Rattle.laws.proofs.Integers.{split}
 use Rattle.laws.proofs.Parts.{drop-later, take-put-end}
 use Rattle.answers.specs.Verdict.{refusal}
-use Rattle.bits.specs.Source.{Source, start, got, stopped}
+use Rattle.bits.specs.Source.{start, got, stopped}
 use Rattle.bits.specs.Code.{sourceOf, highs}
 use Rattle.bits.specs.declared.Stop.{Stop}
 use Rattle.bits.specs.declared.Cursor.{Cursor}
 use Rattle.codes.specs.Table.{Table}
-use Rattle.planes.specs.Plane.{Plane, read, broken, onto, inBlock}
-use Rattle.planes.specs.Task.{Task}
+use Rattle.planes.specs.Plane.{Plane, read, onto}
 use Rattle.planes.specs.AcRead.{acBlock, acBlocks, cut}
 use Rattle.planes.specs.Code.{planeOf, Ran, Small}
 use Rattle.planes.specs.declared.Blocks.the-variants.{Read, Broken}

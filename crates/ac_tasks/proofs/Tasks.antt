@@ -1,23 +1,22 @@
 -- What the code's answers on tasks are worth, case by case, in the terms that its tests leave. Assumes nothing.
-use mathlib.Core.Path.{_≡_, refl, sym, ap, ap₂, subst, _∙_}
+use mathlib.Core.Path.{_≡_, refl, sym, ap, ap₂, _∙_}
 use mathlib.Core.Bool.{Bool, true, false}
-use mathlib.Core.List.{List, []}
-use mathlib.Core.Option.{Option, none, some}
-use Prim.Native.Nat.{ℕ, zero, suc, _+_, _-_, _*_, _/_, _%_, _^_, _≤_, _<_}
+use mathlib.Core.Option.{Option, some}
+use Prim.Native.Nat.{ℕ, zero, suc, _+_, _-_, _*_, _%_, _^_, _≤_, _<_}
 use native.Mathlib.Omega.{arith}
 use lib.Bits.{bitAnd, and-mask}
 use lib.Dec.{leb}
 use lib.IntN.{ℤ, pos, negsuc}
 use borrow.Author.Tests.{le-leb, lt-leb}
-use Rattle.bits.specs.Source.{Source, Out, got, stopped, stop, takeBit}
+use Rattle.bits.specs.Source.{Source, got, stopped, stop, takeBit}
 use Rattle.bits.specs.Reader.{andThen, done}
 use Rattle.bits.specs.Code.{sourceOf}
 use Rattle.bits.specs.declared.Cursor.{Cursor}
-use Rattle.planes.specs.Task.{Task, walk, ended, atZero, pass, unit}
+use Rattle.planes.specs.Task.{Task, walk, ended, atZero, pass}
 use Rattle.planes.specs.AcRead.{meaning, corrected, position, blockEnd}
 use Rattle.ac_tasks.specs.Code.{taskOf, openOf, placedOf, blockOf, Passes, Ends}
 use Rattle.ac_tasks.specs.declared.Job.{Job}
-use Rattle.ac_tasks.specs.declared.Job.the-variants.{Leave, Set, Ended}
+use Rattle.ac_tasks.specs.declared.Job.the-variants.{Ended}
 use Rattle.ac_tasks.specs.declared.Open.{Open}
 use Rattle.ac_tasks.specs.declared.Open.the-variants.{Nothing, Doing}
 use Rattle.ac_tasks.specs.declared.Placed.the-variants.{To}

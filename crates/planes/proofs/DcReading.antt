@@ -2,14 +2,15 @@
 use mathlib.Core.Path.{_≡_, refl, sym, ap, subst, _∙_}
 use mathlib.Core.Bool.{Bool}
 use mathlib.Core.List.{List, [], _∷_, _++_, append-assoc, append-nil}
-use Prim.Native.Nat.{ℕ, zero, suc, _+_, _-_, _≤_, _<_}
+use Prim.Native.Nat.{ℕ, suc, _+_, _-_, _≤_, _<_}
 use native.Mathlib.Numerals.{add-one}
 use native.Mathlib.Omega.{arith}
 use lib.IntN.{ℤ, pos}
 use lib.ListN.{length, getD, take, drop, set, length-set, drop-of-length-le}
-use lib.Seq.{drop-cons, drop-set-lt, take-suc-set, drop-drop}
+use lib.Seq.{drop-cons, drop-set-lt, take-suc-set}
+use Rattle.laws.proofs.Parts.{drop-later}
 use Rattle.answers.specs.Verdict.{refusal}
-use Rattle.bits.specs.Source.{Source, start, got, stopped, takeBit}
+use Rattle.bits.specs.Source.{start, got, stopped, takeBit}
 use Rattle.bits.specs.Code.{sourceOf, highs}
 use Rattle.bits.specs.declared.Stop.{Stop}
 use Rattle.bits.specs.declared.Cursor.{Cursor}
@@ -54,17 +55,11 @@ module _ {bytes : List ℕ} {values before now : List ℤ} {c : Cursor} {i : ℕ
     next : drop i values ≡ getD values i (pos 0) ∷ drop (suc i) values
     next = drop-cons values i (pos 0) h
 
-    later : (n m : ℕ) → n ≤ m → (x y : List ℤ) → drop n x ≡ drop n y → drop m x ≡ drop m y
-    later n m l x y e =
-        let k : ℕ = m - n in
-        let z : n + k ≡ m = omega arith in
-        subst (λ (j : ℕ). drop j x ≡ drop j y) z (sym (drop-drop k n x) ∙ ap (λ (l : List ℤ). drop k l) e ∙ drop-drop k n y)
-
     pub now-stopped : {x : Stop} → takeBit (sourceOf bytes c) ≡ stopped x → Ran bytes (length values) (dcBlocks 0 values (start bytes)) before now (Broken (refusal (x .number) i))
     unfolding planeOf dcBlocks onto
     now-stopped e = record {
       same = rw (next, e) at (a .same);
-      kept = later i (length values) (omega arith) now before (a .rest);
+      kept = drop-later i (length values) (omega arith) now before (a .rest);
     }
 
     pub now-turn : {b : Bool} {d : Cursor} {v : ℤ} → takeBit (sourceOf bytes c) ≡ got b (sourceOf bytes d) → v ≡ newDc (getD values i (pos 0)) b → length values ≤ length before
@@ -75,7 +70,7 @@ module _ {bytes : List ℕ} {values before now : List ℤ} {c : Cursor} {i : ℕ
         record {
           within = omega arith;
           long = length-set now i v ∙ a .long;
-          rest = drop-set-lt (i + 1) now i v (omega arith) ∙ later i (i + 1) (omega arith) now before (a .rest);
+          rest = drop-set-lt (i + 1) now i v (omega arith) ∙ drop-later i (i + 1) (omega arith) now before (a .rest);
           same =
               rw (add-one i, take-suc-set now i v l, q)
               (sym (onto-onto (take i now) (newDc (getD values i (pos 0)) b ∷ []) (dcBlocks (suc i) (drop (suc i) values) (sourceOf bytes d))) ∙ (rw (next, e) at (a .same)));

@@ -79,13 +79,13 @@ enum-known-placed-2 : tie.Need-enum-known-placed-2 Inv-loop μ-loop
 enum-known-placed-2 c = search needs
 
 mul-value : tie.Need-mul-value Inv-loop μ-loop
-mul-value c = let g = c .before .before .before .before .before .before .before .before .before .before .before .before .before .before .good .1 .1 .1 .1 .1 .1 .0 in omega (arith, g)
+mul-value c = omega (arith, c .before .before .before .before .before .before .before .before .before .before .before .before .before .before .good .1 .1 .1 .1 .1 .1 .0)
 
 slice-set-from-value : tie.Need-slice-set-from-value Inv-loop μ-loop
 slice-set-from-value c = omega (arith, c .before .before .before .before .before .before .before .before .before .before .loop .inv .long)
 
 add-i : tie.Need-add-i Inv-loop μ-loop
-add-i c = let g = c .before .before .before .before .before .before .before .before .before .before .before .before .before .before .good .1 .1 .1 .1 .1 .1 .0 in omega (arith, g)
+add-i c = omega (arith, c .before .before .before .before .before .before .before .before .before .before .before .before .before .before .good .1 .1 .1 .1 .1 .1 .0)
 
 loop-less : tie.Need-loop-less Inv-loop μ-loop
 loop-less c = search needs

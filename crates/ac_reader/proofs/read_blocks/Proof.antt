@@ -1,8 +1,8 @@
 -- `ac_reader::read_blocks` meets its contract: what is left to read, behind the values read so far, is the whole. Assumes nothing.
 use mathlib.Core.Path.{_≡_, sym, ap, _∙_}
 use Prim.Native.Nat.{_+_, _-_, _≤_}
-use lib.ListN.{length, take, drop, length-take, length-drop}
-use borrow.Rule.Slice.PartMut.{same-len-mid, mid-len}
+use lib.ListN.{length}
+use borrow.Rule.Slice.PartMut.{mid-len}
 use Rattle.codes.specs.Table.{table}
 use Rattle.ac_tasks.specs.Code.{blockOf}
 use Rattle.ac_reader.proofs.Plane.{Behind, behind-none, behind-all, behind-stopped, behind-one, small-part}

@@ -1,9 +1,7 @@
 -- `ac_reader::try_read_ac` meets its contract: the refusals in their order. Assumes nothing.
-use mathlib.Core.Path.{_≡_, sym, ap, _∙_}
-use mathlib.Core.Bool.{true, false}
-use Prim.Native.Nat.{_-_, _*_, _≤_}
-use lib.Dec.{eqb}
-use lib.ListN.{length}
+use mathlib.Core.Path.{_≡_, sym, _∙_}
+use mathlib.Core.Bool.{true}
+use Prim.Native.Nat.{_-_}
 use borrow.Author.Tests.{not-true, not-false, eq-eqb, ne-eqb, le-leb, lt-leb}
 use Rattle.laws.specs.Index.{every}
 use Rattle.answers.proofs.Laws.{tried-refused}

@@ -1,5 +1,5 @@
 -- `ac_tasks::block_end` meets its contract. Assumes nothing.
-use mathlib.Core.Path.{_≡_, ap}
+use mathlib.Core.Path.{ap}
 use Rattle.ac_tasks.specs.Code.{taskOf}
 use Rattle.ac_tasks.proofs.Tasks.{ends-none, ends-walk, ends-last, ends-run}
 use borrow.Author.Needs.{needs}

@@ -1,14 +1,12 @@
 -- `ac_tasks::corrected` meets its contract: no intermediate leaves 32 bits. Assumes nothing.
-use mathlib.Core.Path.{_≡_, sym, _∙_}
-use Prim.Native.Nat.{_≤_}
-use lib.IntN.{ℤ, pos, natAbs, negℤ, _+ℤ_, _-ℤ_, _*ℤ_}
+use mathlib.Core.Path.{_≡_}
+use lib.IntN.{ℤ, pos, negℤ, _+ℤ_, _-ℤ_, _*ℤ_}
 use mir.Syntax.{w32}
 use mir.Val.{SFits, toZ}
 use mir.Facts.{toZ-pos, toZ-ofZ}
 use Rattle.bits.specs.Digits.{bin}
 use Rattle.codes.proofs.Reading.{bin-small}
 use Rattle.laws.proofs.Integers.{fit, abs-prod, abs-sum, abs-neg}
-use Rattle.planes.specs.AcRead.{corrected}
 use Rattle.ac_tasks.proofs.Numbers.{down, upward}
 use native.Mathlib.Omega.{arith}
 use borrow.Author.Needs.{needs}

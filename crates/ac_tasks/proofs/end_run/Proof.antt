@@ -1,5 +1,5 @@
 -- `ac_tasks::end_run` meets its contract. Assumes nothing.
-use mathlib.Core.Path.{_≡_, sym, ap, _∙_}
+use mathlib.Core.Path.{sym, ap, _∙_}
 use lib.Pow.{pow-pos}
 use Rattle.planes.specs.AcRead.{endRun}
 use Rattle.ac_tasks.specs.Code.{numberOf, toldOf}

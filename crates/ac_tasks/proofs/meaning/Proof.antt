@@ -1,5 +1,5 @@
 -- `ac_tasks::meaning` meets its contract. Assumes nothing.
-use mathlib.Core.Path.{_≡_, sym, ap, _∙_}
+use mathlib.Core.Path.{sym, ap, _∙_}
 use borrow.Author.Tests.{lt-ltb, le-ltb}
 use Rattle.bits.specs.Code.{takenOf}
 use Rattle.planes.specs.AcRead.{meaning}

@@ -1,5 +1,5 @@
 -- `ac_tasks::pass_zero` meets its contract. Assumes nothing.
-use mathlib.Core.Path.{_≡_, refl, sym, ap, _∙_}
+use mathlib.Core.Path.{refl, sym, ap, _∙_}
 use mir.Syntax.{w32}
 use Rattle.laws.proofs.Integers.{back}
 use Rattle.ac_tasks.specs.Code.{taskOf}

@@ -1,8 +1,8 @@
 -- `ac_tasks::task_at` meets its contract. Assumes nothing.
-use mathlib.Core.Path.{_≡_, sym, ap, _∙_}
+use mathlib.Core.Path.{sym, ap, _∙_}
 use Rattle.codes.specs.Read.{codedOf}
 use Rattle.planes.specs.AcRead.{taskAt}
-use Rattle.ac_tasks.specs.Code.{openOf, toldOf}
+use Rattle.ac_tasks.specs.Code.{toldOf}
 use borrow.Author.Needs.{needs}
 use Rattle.ac_tasks.proofs.task_at.Statement.{statement}
 use Rattle.ac_tasks.proofs.task_at.Tie as tie

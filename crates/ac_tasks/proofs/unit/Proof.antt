@@ -1,6 +1,4 @@
 -- `ac_tasks::unit` meets its contract. Assumes nothing.
-use mathlib.Core.Path.{_≡_}
-use borrow.Author.Needs.{needs}
 use Rattle.ac_tasks.proofs.unit.Statement.{statement}
 use Rattle.ac_tasks.proofs.unit.Tie as tie
 
