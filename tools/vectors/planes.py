@@ -1,12 +1,12 @@
 #!/usr/bin/env python3
-"""planes.py OUT: makes the vectors of refinement planes that crates/plane_vectors runs, from libjpeg-turbo, from the ISO reference
+"""planes.py STDIN STDOUT: makes the vectors of refinement planes that crates/plane_vectors runs and what it must print, from libjpeg-turbo, from the ISO reference
 software of JPEG XT, and from rules.py. README.md beside this file says what it needs. Prints what it made, a line for each group."""
 import math, os, random, struct, subprocess, sys, tempfile
 from rules import *
 
 HERE = os.path.dirname(os.path.abspath(__file__))
 TMP = tempfile.mkdtemp()
-records, made = [], {}
+records = []
 READ_DC, WRITE_DC, READ_AC, WRITE_AC, TRIP_DC, TRIP_AC = 1, 2, 3, 4, 5, 6
 
 
@@ -33,7 +33,6 @@ def lent(data):
 def record(group, kind, plane, blocks, room, values, answer, counts=b'', codes=b'', data=b''):
     number, place, out = answer
     reads = kind in (READ_DC, READ_AC)
-    made[group] = made.get(group, 0) + 1
     body = struct.pack('<BBIII', group, kind, plane, blocks, room) + lent(counts) + lent(codes) + lent(data) + sparse(values)
     body += struct.pack('<II', number, place)
     if number == 0:
@@ -43,7 +42,6 @@ def record(group, kind, plane, blocks, room, values, answer, counts=b'', codes=b
 
 def trip(group, plane, blocks, new, data, table=None):
     """These values are written as these bytes, and the bytes over the halves are read as these values."""
-    made[group] = made.get(group, 0) + 2
     if table:
         old = [half(v) for v in new]
         assert read_ac(plane, blocks, *table, data, old, len(old)) == (0, len(old), new) and write_ac(plane, blocks, *table, new, 10 ** 6) == (0, len(data), data)
@@ -137,7 +135,7 @@ def from_libjpeg(width, height, planes, quality, picture):
                 different += 1
                 print(f'  plane {plane} of {blocks} blocks: libjpeg wrote {len(bytes_)} bytes, the longest end runs give (number, place) {ours[:2]}')
                 record(3, READ_AC, plane, blocks, 63 * blocks, old, (0, 63 * blocks, new), *table, data=bytes_)
-                record(3, WRITE_AC, plane, blocks, 10 ** 6, new, ours, *table)
+                record(3, WRITE_AC, plane, blocks, 100000, new, ours, *table)
     return different
 
 
@@ -299,8 +297,11 @@ def main():
     refusals(rnd)
     with open(sys.argv[1], 'wb') as f:
         f.write(struct.pack('<I', len(records)) + b''.join(records))
-    for group in sorted(made):
-        print(f'group {group}: {made[group]}')
+    counts = {}
+    for body in records:
+        counts[body[0]] = counts.get(body[0], 0) + 1
+    with open(sys.argv[2], 'w') as f:
+        f.write(''.join(f'group {group}: {counts[group]} of {counts[group]} right\n' for group in sorted(counts)))
     print(f'{len(records)} records, {os.path.getsize(sys.argv[1])} bytes; libjpeg differs in {different} planes')
 
 

@@ -241,6 +241,26 @@ fn answered(a: Answer, number: usize, place: usize) -> bool {
     a.place == place
 }
 
+// The call that a record asks for, on its data and its table.
+fn read_plane(bytes: &[u8], c: Case, values: &[i32], output: &mut [i32]) -> Answer {
+    let data = lent(bytes, c.data);
+    if is_ac(c.kind) {
+        let counts = lent(bytes, c.counts);
+        let codes = lent(bytes, c.codes);
+        return ac_reader::read_ac(c.plane, c.blocks, counts, codes, data, values, output);
+    }
+    planes::read_dc(c.plane, c.blocks, data, values, output)
+}
+
+fn write_plane(bytes: &[u8], c: Case, values: &[i32], output: &mut [u8]) -> Answer {
+    if is_ac(c.kind) {
+        let counts = lent(bytes, c.counts);
+        let codes = lent(bytes, c.codes);
+        return ac_writer::write_ac(c.plane, c.blocks, counts, codes, values, output);
+    }
+    planes::write_dc(c.plane, c.blocks, values, output)
+}
+
 // A plane is read, and number, place and the whole destination are right.
 fn reads(
     bytes: &[u8],
@@ -252,8 +272,7 @@ fn reads(
     output: &mut [i32],
 ) -> bool {
     fill_values(output, 7);
-    let data = lent(bytes, c.data);
-    let a = planes::read_dc(c.plane, c.blocks, data, values, output);
+    let a = read_plane(bytes, c, values, output);
     if !answered(a, number, place) {
         return false;
     }
@@ -271,7 +290,7 @@ fn writes(
     output: &mut [u8],
 ) -> bool {
     fill_bytes(output, 7);
-    let a = planes::write_dc(c.plane, c.blocks, values, output);
+    let a = write_plane(bytes, c, values, output);
     if !answered(a, number, place) {
         return false;
     }

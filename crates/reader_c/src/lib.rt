@@ -8,6 +8,8 @@ ghost use Rattle.boxes.specs.Box.{boxOf};
 ghost use Rattle.codes.specs.Table.{table};
 ghost use Rattle.planes.specs.Dc.{readDc, writeDc};
 ghost use Rattle.planes.specs.AcRead.{readAc};
+ghost use Rattle.planes.specs.AcWrite.{writeAc};
+ghost use Rattle.listing_text.specs.Text.{listed};
 ghost use Rattle.reader_c.specs.Merge.{colourOf, curveOf, matrixOf, residualOf, known, matrixCount, weightsOf, settingOf, barred, mergeCall};
 ghost use Rattle.transform.specs.Call.{inverseTransform};
 
@@ -23,6 +25,16 @@ pub extern "C" fn xt_box_bytes(
     ensures { λ r. ⌜ Meets 0 (boxOf (now (file .entry)) kind instance (length (now (destination .entry)))) (now (destination .entry)) (now (destination .exit)) (record { number = r; place = now (place .exit) }) ⌝ }
 {
     let a = boxes::box_bytes(file, kind, instance, destination);
+    *place = a.place as u64;
+    a.number
+}
+
+// The listing of a file's packets as text.
+#[no_mangle]
+pub extern "C" fn xt_list_packets(file: &[u8], text: &mut [u8], place: &mut u64) -> u32
+    ensures { λ r. ⌜ Meets 0 (listed (now (file .entry)) (length (now (text .entry)))) (now (text .entry)) (now (text .exit)) (record { number = r; place = now (place .exit) }) ⌝ }
+{
+    let a = listing_text::list_packets(file, text);
     *place = a.place as u64;
     a.number
 }
@@ -92,6 +104,24 @@ pub extern "C" fn xt_read_ac_plane(
     ensures { λ r. ⌜ Meets (pos 0) (readAc plane blocks (table (now (counts .entry)) (now (codes .entry))) (now (values .entry)) (now («data» .entry)) (length (now (destination .entry)))) (now (destination .entry)) (now (destination .exit)) (record { number = r; place = now (place .exit) }) ⌝ }
 {
     let a = ac_reader::read_ac(plane, blocks, counts, codes, data, values, destination);
+    *place = a.place as u64;
+    a.number
+}
+
+// An AC plane written.
+#[no_mangle]
+pub extern "C" fn xt_write_ac_plane(
+    plane: u32,
+    blocks: usize,
+    counts: &[u8],
+    codes: &[u8],
+    values: &[i32],
+    destination: &mut [u8],
+    place: &mut u64,
+) -> u32
+    ensures { λ r. ⌜ Meets 0 (writeAc plane blocks (table (now (counts .entry)) (now (codes .entry))) (now (values .entry)) (length (now (destination .entry)))) (now (destination .entry)) (now (destination .exit)) (record { number = r; place = now (place .exit) }) ⌝ }
+{
+    let a = ac_writer::write_ac(plane, blocks, counts, codes, values, destination);
     *place = a.place as u64;
     a.number
 }
