@@ -3,3 +3,4 @@ pub mod Classes
 pub mod Lengths
 pub mod Positions
 pub mod Planes
+pub mod Cases
