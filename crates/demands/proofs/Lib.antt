@@ -1,3 +1,7 @@
 pub mod Held
 pub mod Three
 pub mod Cases
+pub mod Rows
+pub mod Stops
+pub mod Walked
+pub mod One

@@ -1,2 +1,3 @@
+pub mod One
 pub mod Three
 pub mod Cases
