@@ -50,9 +50,9 @@ DcStop n = T (stands n (12 ∷ 13 ∷ []))
 abbrev AcStop : ℕ → Type 0
 AcStop n = T (stands n (12 ∷ 13 ∷ 14 ∷ 15 ∷ 16 ∷ 17 ∷ []))
 
-dc-read : (plane blocks : ℕ) (values : List ℤ) (bytes : List ℕ) (room : ℕ) → Keeps (dcReadRows plane blocks values bytes room) room (readDc plane blocks values bytes room)
+pub dc-read-keeps : (plane blocks : ℕ) (values : List ℤ) (bytes : List ℕ) (room : ℕ) → Keeps (dcReadRows plane blocks values bytes room) room (readDc plane blocks values bytes room)
 unfolding readDc dcReadRows
-dc-read plane blocks values bytes room =
+dc-read-keeps plane blocks values bytes room =
     need-keeps (every (readable plane blocks)) 20 0 _ (λ e. inl (tt, refl)) λ e.
     need-keeps (eqb (length values) blocks) 21 0 _ (λ f. inl (tt, refl)) λ f.
     unless-keeps 11 (firstOutside Dc (plane - 1) values) _ (λ i g. inr (inl (tt, outside-first Dc (plane - 1) values i g))) λ o.
@@ -62,9 +62,9 @@ dc-read plane blocks values bytes room =
     closed-keeps DcStop (length bytes) blocks (length values) (dcBlocks 0 values (start bytes)) (omega arith) (λ number place h k. inr (inr (inr (inl (h, k))))) (λ place h. inr (inr (inr (inr (tt, h)))))
     (dc-blocks DcStop (length bytes) tt tt blocks 0 values (start bytes) (omega arith) (omega arith))
 
-ac-read : (plane blocks : ℕ) (codes : Table) (values : List ℤ) (bytes : List ℕ) (room : ℕ) → Keeps (acReadRows plane blocks values bytes room) room (readAc plane blocks codes values bytes room)
+pub ac-read-keeps : (plane blocks : ℕ) (codes : Table) (values : List ℤ) (bytes : List ℕ) (room : ℕ) → Keeps (acReadRows plane blocks values bytes room) room (readAc plane blocks codes values bytes room)
 unfolding readAc acReadRows
-ac-read plane blocks codes values bytes room =
+ac-read-keeps plane blocks codes values bytes room =
     need-keeps (every (readable plane blocks)) 20 0 _ (λ e. inl (tt, refl)) λ e.
     need-keeps (eqb (length values) (63 * blocks)) 21 0 _ (λ f. inl (tt, refl)) λ f.
     need-keeps (goodTable codes) 10 0 _ (λ t. inl (tt, refl)) λ t.
@@ -78,9 +78,9 @@ ac-read plane blocks codes values bytes room =
 
 -- ---- writing planes
 
-dc-write : (plane blocks : ℕ) (values : List ℤ) (room : ℕ) → Keeps (dcWriteRows plane values room) room (writeDc plane blocks values room)
+pub dc-write-keeps : (plane blocks : ℕ) (values : List ℤ) (room : ℕ) → Keeps (dcWriteRows plane values room) room (writeDc plane blocks values room)
 unfolding writeDc dcWriteRows
-dc-write plane blocks values room =
+dc-write-keeps plane blocks values room =
     need-keeps (every (writable plane blocks)) 20 0 _ (λ e. inl (tt, refl)) λ e.
     need-keeps (eqb (length values) blocks) 21 0 _ (λ f. inl (tt, refl)) λ f.
     unless-keeps 11 (firstOutside Dc plane values) _ (λ i g. inr (inl (tt, outside-first Dc plane values i g))) λ o.
@@ -96,9 +96,9 @@ lacked codes [] v e = let z : _≡_ {A = ℕ} 0 1 = cc in let y : ⊥ = omega ar
 lacked codes (raw b ∷ ts) v e = lacked codes ts v e
 lacked codes (code w ∷ ts) v e = lacked-here codes w v (missing codes ts) (placeOf w (codes .values)) refl (lacked codes ts v) e
 
-ac-write : (plane blocks : ℕ) (codes : Table) (values : List ℤ) (room : ℕ) → Keeps (acWriteRows plane blocks codes values room) room (writeAc plane blocks codes values room)
+pub ac-write-keeps : (plane blocks : ℕ) (codes : Table) (values : List ℤ) (room : ℕ) → Keeps (acWriteRows plane blocks codes values room) room (writeAc plane blocks codes values room)
 unfolding writeAc acWriteRows
-ac-write plane blocks codes values room =
+ac-write-keeps plane blocks codes values room =
     need-keeps (every (writable plane blocks)) 20 0 _ (λ e. inl (tt, refl)) λ e.
     need-keeps (eqb (length values) (63 * blocks)) 21 0 _ (λ f. inl (tt, refl)) λ f.
     need-keeps (goodTable codes) 10 0 _ (λ t. inl (tt, refl)) λ t.
@@ -108,7 +108,7 @@ ac-write plane blocks codes values room =
 
 -- ---- the transform and the merge
 
-transform-keeps : (refinement blocks : ℕ) (values : List ℤ) (quantisers : List ℕ) (room : ℕ) → Keeps (transformRows refinement blocks values quantisers room) room (inverseTransform refinement blocks values quantisers room)
+pub transform-keeps : (refinement blocks : ℕ) (values : List ℤ) (quantisers : List ℕ) (room : ℕ) → Keeps (transformRows refinement blocks values quantisers room) room (inverseTransform refinement blocks values quantisers room)
 unfolding inverseTransform transformRows firstBadQuantiser
 transform-keeps refinement blocks values quantisers room =
     need-keeps (every (leb refinement 4 ∷ leb blocks 1024 ∷ [])) 20 0 _ (λ e. inl (tt, refl)) λ e.
@@ -117,7 +117,7 @@ transform-keeps refinement blocks values quantisers room =
     unless-keeps 11 (firstOutside Whole refinement values) _ (λ i g. inr (inr (inl (tt, outside-first Whole refinement values i g)))) λ o.
     fitting-keeps (picture refinement blocks values quantisers) (λ h. inr (inr (inr (tt, (picture-length refinement blocks values quantisers, h)))))
 
-merge-keeps : (s : Setting) (pixels : ℕ) (base residual : List ℤ) (table : List ℕ) (room : ℕ) → Keeps (mergeRows s pixels table room) room (merge s pixels base residual table room)
+pub merge-keeps : (s : Setting) (pixels : ℕ) (base residual : List ℤ) (table : List ℕ) (room : ℕ) → Keeps (mergeRows s pixels table room) room (merge s pixels base residual table room)
 unfolding merge mergeRows
 merge-keeps s pixels base residual table room =
     need-keeps (inRanges s pixels) 20 0 _ (λ e. inl (tt, refl)) λ e.
@@ -130,10 +130,10 @@ merge-keeps s pixels base residual table room =
 pub demand-one : DemandOne
 demand-one = record {
   boxes = λ file kind instance before. answered 0 _ before _ (box-keeps file kind instance (length before));
-  dcRead = λ plane blocks values bytes before. answered (pos 0) _ before _ (dc-read plane blocks values bytes (length before));
-  acRead = λ plane blocks codes values bytes before. answered (pos 0) _ before _ (ac-read plane blocks codes values bytes (length before));
-  dcWrite = λ plane blocks values before. answered 0 _ before _ (dc-write plane blocks values (length before));
-  acWrite = λ plane blocks codes values before. answered 0 _ before _ (ac-write plane blocks codes values (length before));
+  dcRead = λ plane blocks values bytes before. answered (pos 0) _ before _ (dc-read-keeps plane blocks values bytes (length before));
+  acRead = λ plane blocks codes values bytes before. answered (pos 0) _ before _ (ac-read-keeps plane blocks codes values bytes (length before));
+  dcWrite = λ plane blocks values before. answered 0 _ before _ (dc-write-keeps plane blocks values (length before));
+  acWrite = λ plane blocks codes values before. answered 0 _ before _ (ac-write-keeps plane blocks codes values (length before));
   transforms = λ refinement blocks values quantisers before. answered (pos 0) _ before _ (transform-keeps refinement blocks values quantisers (length before));
   merges = λ s pixels base residual table before. answered 0 _ before _ (merge-keeps s pixels base residual table (length before));
 }

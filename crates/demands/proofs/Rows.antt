@@ -52,3 +52,8 @@ module _ {A : Type 0} (zero : A) (table : Rows) (before : List A) where
   pub answered : (v : Verdict A) → Keeps table (length before) v → (after : List A) (answer : Answer) → Meets zero v before after answer → Answered zero table before after answer
   answered (given ys) (gives h) after answer m = inl (rw (m .answered, m .held) (success ys h))
   answered (refused r) (refuses t) after answer m = inr (record { row = rw (m .answered) t; zeros = m .held })
+
+-- no row has the number 0
+
+abbrev pub NoZero : Rows → Type 0
+NoZero table = (p : ℕ) → table 0 p → ⊥
