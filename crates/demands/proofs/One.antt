@@ -1,6 +1,6 @@
 -- Demand 1 holds. Assumes nothing.
 use mathlib.Core.Path.{_≡_, refl}
-use mathlib.Core.Logic.{inl, inr}
+use mathlib.Core.Logic.{inl, inr, ⊎-elim}
 use mathlib.Core.List.{List, [], _∷_}
 use mathlib.Core.Option.{none}
 use Prim.Native.Nat.{ℕ, _-_, _*_, _≤_}
@@ -32,8 +32,8 @@ use Rattle.settings.specs.Tests.{inRanges, plain, srgbAllowed, lengthsRight, en
 use Rattle.merge.specs.Picture as merging
 use Rattle.merge.specs.Picture.{merge}
 use Rattle.merge.proofs.Order.{picture-long}
-use Rattle.demands.specs.One.{stands, First, dcReadRows, acReadRows, dcWriteRows, acWriteRows, transformRows, mergeRows, DemandOne}
-use Rattle.demands.proofs.Rows.{Keeps, need-keeps, unless-keeps, fitting-keeps, first-index, answered}
+use Rattle.demands.specs.One.{stands, First, packetRows, boxRows, dcReadRows, acReadRows, dcWriteRows, acWriteRows, transformRows, mergeRows, DemandOne}
+use Rattle.demands.proofs.Rows.{Keeps, need-keeps, unless-keeps, fitting-keeps, first-index, NoZero, answered}
 use Rattle.demands.proofs.Stops.{dc-blocks, ac-blocks, closed-keeps, sizes, cut-sizes, cut-length}
 use Rattle.demands.proofs.Walked.{box-keeps}
 
@@ -127,13 +127,43 @@ merge-keeps s pixels base residual table room =
     unless-keeps 11 (firstFail (length table) (entryRight (top (s .rb)) table)) _ (λ i q. inr (inl (tt, first-index (length table) (entryRight (top (s .rb)) table) i q))) λ o.
     fitting-keeps (merging.picture s pixels base residual table) (λ l. inr (inr (tt, (picture-long s pixels base residual table room, l))))
 
+-- ---- no row has the number 0
+
+pub box-zero : (file : List ℕ) (kind instance room : ℕ) → NoZero (boxRows file kind instance room)
+unfolding boxRows packetRows
+box-zero file kind instance room p = ⊎-elim (λ h. h .0) (⊎-elim (λ h. h .0) (⊎-elim (λ h. h .0) (⊎-elim (λ h. h .0) (⊎-elim (λ h. h .0) (⊎-elim (λ h. h .0) (⊎-elim (λ h. h .0) (λ h. h .0)))))))
+
+pub dc-read-zero : (plane blocks : ℕ) (values : List ℤ) (bytes : List ℕ) (room : ℕ) → NoZero (dcReadRows plane blocks values bytes room)
+unfolding dcReadRows
+dc-read-zero plane blocks values bytes room p = ⊎-elim (λ h. h .0) (⊎-elim (λ h. h .0) (⊎-elim (λ h. h .0) (⊎-elim (λ h. h .0) (λ h. h .0))))
+
+pub ac-read-zero : (plane blocks : ℕ) (values : List ℤ) (bytes : List ℕ) (room : ℕ) → NoZero (acReadRows plane blocks values bytes room)
+unfolding acReadRows
+ac-read-zero plane blocks values bytes room p = ⊎-elim (λ h. h .0) (⊎-elim (λ h. h .0) (⊎-elim (λ h. h .0) (⊎-elim (λ h. h .0) (λ h. h .0))))
+
+pub dc-write-zero : (plane : ℕ) (values : List ℤ) (room : ℕ) → NoZero (dcWriteRows plane values room)
+unfolding dcWriteRows
+dc-write-zero plane values room p = ⊎-elim (λ h. h .0) (⊎-elim (λ h. h .0) (λ h. h .0))
+
+pub ac-write-zero : (plane blocks : ℕ) (codes : Table) (values : List ℤ) (room : ℕ) → NoZero (acWriteRows plane blocks codes values room)
+unfolding acWriteRows
+ac-write-zero plane blocks codes values room p = ⊎-elim (λ h. h .0) (⊎-elim (λ h. h .0) (⊎-elim (λ h. h .0) (λ h. h .0)))
+
+pub transform-zero : (refinement blocks : ℕ) (values : List ℤ) (quantisers : List ℕ) (room : ℕ) → NoZero (transformRows refinement blocks values quantisers room)
+unfolding transformRows
+transform-zero refinement blocks values quantisers room p = ⊎-elim (λ h. h .0) (⊎-elim (λ h. h .0) (⊎-elim (λ h. h .0) (λ h. h .0)))
+
+pub merge-zero : (s : Setting) (pixels : ℕ) (table : List ℕ) (room : ℕ) → NoZero (mergeRows s pixels table room)
+unfolding mergeRows
+merge-zero s pixels table room p = ⊎-elim (λ h. h .0) (⊎-elim (λ h. h .0) (λ h. h .0))
+
 pub demand-one : DemandOne
 demand-one = record {
-  boxes = λ file kind instance before. answered 0 _ before _ (box-keeps file kind instance (length before));
-  dcRead = λ plane blocks values bytes before. answered (pos 0) _ before _ (dc-read-keeps plane blocks values bytes (length before));
-  acRead = λ plane blocks codes values bytes before. answered (pos 0) _ before _ (ac-read-keeps plane blocks codes values bytes (length before));
-  dcWrite = λ plane blocks values before. answered 0 _ before _ (dc-write-keeps plane blocks values (length before));
-  acWrite = λ plane blocks codes values before. answered 0 _ before _ (ac-write-keeps plane blocks codes values (length before));
-  transforms = λ refinement blocks values quantisers before. answered (pos 0) _ before _ (transform-keeps refinement blocks values quantisers (length before));
-  merges = λ s pixels base residual table before. answered 0 _ before _ (merge-keeps s pixels base residual table (length before));
+  boxes = λ file kind instance before. answered 0 (box-zero file kind instance (length before)) before _ (box-keeps file kind instance (length before));
+  dcRead = λ plane blocks values bytes before. answered (pos 0) (dc-read-zero plane blocks values bytes (length before)) before _ (dc-read-keeps plane blocks values bytes (length before));
+  acRead = λ plane blocks codes values bytes before. answered (pos 0) (ac-read-zero plane blocks values bytes (length before)) before _ (ac-read-keeps plane blocks codes values bytes (length before));
+  dcWrite = λ plane blocks values before. answered 0 (dc-write-zero plane values (length before)) before _ (dc-write-keeps plane blocks values (length before));
+  acWrite = λ plane blocks codes values before. answered 0 (ac-write-zero plane blocks codes values (length before)) before _ (ac-write-keeps plane blocks codes values (length before));
+  transforms = λ refinement blocks values quantisers before. answered (pos 0) (transform-zero refinement blocks values quantisers (length before)) before _ (transform-keeps refinement blocks values quantisers (length before));
+  merges = λ s pixels base residual table before. answered 0 (merge-zero s pixels table (length before)) before _ (merge-keeps s pixels base residual table (length before));
 }

@@ -1,5 +1,5 @@
 -- How the order of refusals comes to rows of the table, and a call's promise to demand 1. Assumes nothing.
-use mathlib.Core.Path.{_≡_, refl, _∙_}
+use mathlib.Core.Path.{_≡_, refl, sym, ap, subst, _∙_}
 use mathlib.Core.Logic.{inl, inr}
 use mathlib.Core.Bool.{Bool, true, false}
 use mathlib.Core.List.{List, _++_}
@@ -38,22 +38,23 @@ module _ {A : Type 0} {table : Rows} {room : ℕ} where
 pub first-index : (n : ℕ) (test : ℕ → Bool) (i : ℕ) → firstFail n test ≡ At i → First n test i
 first-index n test i e = let r = first-at n test e in record { below = r .0; fails = r .1; before = r .2 }
 
--- ---- a call's promise
-
-module _ {A : Type 0} (zero : A) (table : Rows) (before : List A) where
-  success : (ys : List A) → length ys ≤ length before → Succeeded before (ys ++ drop (length ys) before) (record { number = 0; place = length ys })
-  success ys h = record {
-    well = refl;
-    written = h;
-    long = let e = length-drop (length ys) before in length-append ys (drop (length ys) before) ∙ omega arith;
-    past = drop-append-seam ys (drop (length ys) before);
-  }
-
-  pub answered : (v : Verdict A) → Keeps table (length before) v → (after : List A) (answer : Answer) → Meets zero v before after answer → Answered zero table before after answer
-  answered (given ys) (gives h) after answer m = inl (rw (m .answered, m .held) (success ys h))
-  answered (refused r) (refuses t) after answer m = inr (record { row = rw (m .answered) t; zeros = m .held })
-
 -- no row has the number 0
 
 abbrev pub NoZero : Rows → Type 0
 NoZero table = (p : ℕ) → table 0 p → ⊥
+
+-- ---- a call's promise
+
+success : {A : Type 0} (before ys : List A) → length ys ≤ length before → Succeeded before (ys ++ drop (length ys) before) (record { number = 0; place = length ys })
+success before ys h = record {
+  well = refl;
+  written = h;
+  long = let e = length-drop (length ys) before in length-append ys (drop (length ys) before) ∙ omega arith;
+  past = drop-append-seam ys (drop (length ys) before);
+}
+
+module _ {A : Type 0} (zero : A) {table : Rows} (never : NoZero table) (before : List A) where
+  pub answered : (v : Verdict A) → Keeps table (length before) v → (after : List A) (answer : Answer) → Meets zero v before after answer → Answered zero table before after answer
+  answered (given ys) (gives h) after answer m = inl (rw (m .answered, m .held) (success before ys h))
+  answered (refused r) (refuses t) after answer m =
+      inr (record { row = rw (m .answered) t; told = λ e. never (r .place) (subst (λ (n : ℕ). table n (r .place)) (sym (ap (λ (a : Answer). a .number) (m .answered)) ∙ e) t); zeros = m .held })

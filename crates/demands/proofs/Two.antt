@@ -1,6 +1,5 @@
 -- Demand 2 holds. Assumes nothing.
 use mathlib.Core.Path.{_≡_, refl, sym, ap, subst, _∙_}
-use mathlib.Core.Logic.{⊎-elim}
 use mathlib.Core.Bool.{true}
 use mathlib.Core.List.{List, [], _∷_}
 use mathlib.Core.Option.{none}
@@ -32,11 +31,11 @@ use Rattle.rounding.specs.Near.{top}
 use Rattle.pixel.specs.declared.Setting.{Setting}
 use Rattle.settings.specs.Tests.{inRanges, plain, srgbAllowed, lengthsRight, entryRight}
 use Rattle.merge.specs.Picture.{picture, merge}
-use Rattle.demands.specs.One.{Rows, packetRows, boxRows, dcReadRows, acReadRows, dcWriteRows, acWriteRows, transformRows, mergeRows}
+use Rattle.demands.specs.One.{Rows}
 use Rattle.demands.specs.Two.{Exactly, DcRefined, AcRefined, DcCoded, AcCoded, Sampled, Merged, DemandTwo}
 use Rattle.demands.proofs.Rows.{Keeps, refuses, NoZero}
 use Rattle.demands.proofs.Walked.{box-keeps}
-use Rattle.demands.proofs.One.{dc-read-keeps, ac-read-keeps, dc-write-keeps, ac-write-keeps, transform-keeps, merge-keeps}
+use Rattle.demands.proofs.One.{dc-read-keeps, ac-read-keeps, dc-write-keeps, ac-write-keeps, transform-keeps, merge-keeps, box-zero, dc-read-zero, ac-read-zero, dc-write-zero, ac-write-zero, transform-zero, merge-zero}
 
 -- ---- from a verdict to what was written
 
@@ -198,36 +197,6 @@ module _ (s : Setting) (pixels : ℕ) (base residual : List ℤ) (table : List �
   unfolding merge
   merged-given ys h =
       rw (h .ranges, h .one, h .srgb, h .lengths, h .entries) (fits-given room (picture s pixels base residual table) ys (h .results) (h .fits))
-
--- ---- no row has the number 0
-
-box-zero : (file : List ℕ) (kind instance room : ℕ) → NoZero (boxRows file kind instance room)
-unfolding boxRows packetRows
-box-zero file kind instance room = λ p. ⊎-elim (λ h. h .0) (⊎-elim (λ h. h .0) (⊎-elim (λ h. h .0) (⊎-elim (λ h. h .0) (⊎-elim (λ h. h .0) (⊎-elim (λ h. h .0) (⊎-elim (λ h. h .0) (λ h. h .0)))))))
-
-dc-read-zero : (plane blocks : ℕ) (values : List ℤ) (bytes : List ℕ) (room : ℕ) → NoZero (dcReadRows plane blocks values bytes room)
-unfolding dcReadRows
-dc-read-zero plane blocks values bytes room = λ p. ⊎-elim (λ h. h .0) (⊎-elim (λ h. h .0) (⊎-elim (λ h. h .0) (⊎-elim (λ h. h .0) (λ h. h .0))))
-
-ac-read-zero : (plane blocks : ℕ) (values : List ℤ) (bytes : List ℕ) (room : ℕ) → NoZero (acReadRows plane blocks values bytes room)
-unfolding acReadRows
-ac-read-zero plane blocks values bytes room = λ p. ⊎-elim (λ h. h .0) (⊎-elim (λ h. h .0) (⊎-elim (λ h. h .0) (⊎-elim (λ h. h .0) (λ h. h .0))))
-
-dc-write-zero : (plane : ℕ) (values : List ℤ) (room : ℕ) → NoZero (dcWriteRows plane values room)
-unfolding dcWriteRows
-dc-write-zero plane values room = λ p. ⊎-elim (λ h. h .0) (⊎-elim (λ h. h .0) (λ h. h .0))
-
-ac-write-zero : (plane blocks : ℕ) (codes : Table) (values : List ℤ) (room : ℕ) → NoZero (acWriteRows plane blocks codes values room)
-unfolding acWriteRows
-ac-write-zero plane blocks codes values room = λ p. ⊎-elim (λ h. h .0) (⊎-elim (λ h. h .0) (⊎-elim (λ h. h .0) (λ h. h .0)))
-
-transform-zero : (refinement blocks : ℕ) (values : List ℤ) (quantisers : List ℕ) (room : ℕ) → NoZero (transformRows refinement blocks values quantisers room)
-unfolding transformRows
-transform-zero refinement blocks values quantisers room = λ p. ⊎-elim (λ h. h .0) (⊎-elim (λ h. h .0) (⊎-elim (λ h. h .0) (λ h. h .0)))
-
-merge-zero : (s : Setting) (pixels : ℕ) (table : List ℕ) (room : ℕ) → NoZero (mergeRows s pixels table room)
-unfolding mergeRows
-merge-zero s pixels table room = λ p. ⊎-elim (λ h. h .0) (⊎-elim (λ h. h .0) (λ h. h .0))
 
 pub demand-two : DemandTwo
 demand-two = record {

@@ -78,15 +78,16 @@ pub record Succeeded {A : Type 0} (before after : List A) (answer : Answer) : Ty
   pub long : length after ≡ length before
   pub past : drop (answer .place) after ≡ drop (answer .place) before
 
--- a row of the table, and "the whole lent destination is zeros"
+-- a row of the table, told by a number that is not 0, and "the whole lent destination is zeros"
 pub record Turned {A : Type 0} (zero : A) (table : Rows) (before after : List A) (answer : Answer) : Type 0 where
   pub row : table (answer .number) (answer .place)
+  pub told : answer .number ≡ 0 → ⊥
   pub zeros : after ≡ replicate (length before) zero
 
 abbrev pub Answered : {A : Type 0} → A → Rows → List A → List A → Answer → Type 0
 Answered zero table before after answer = Succeeded before after answer ⊎ Turned zero table before after answer
 
--- ---- the rows of each call; none has the number 0
+-- ---- the rows of each call
 
 -- where the walk over a file comes by
 pub data Reached (file : List ℕ) : ℕ → Type 0 where
