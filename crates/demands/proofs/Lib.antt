@@ -3,6 +3,7 @@ pub mod Stops
 pub mod Walked
 pub mod One
 pub mod Two
+pub mod Values
 pub mod Held
 pub mod Three
 pub mod Cases

@@ -4,11 +4,12 @@ use mathlib.Core.Path.{_≡_}
 use mathlib.Core.Bool.{true}
 use mathlib.Core.List.{List, [], _∷_}
 use mathlib.Core.Option.{none}
-use Prim.Native.Nat.{ℕ, _-_, _*_, _≤_}
+use Prim.Native.Nat.{ℕ, _+_, _-_, _*_, _^_, _≤_, _<_}
 use lib.Dec.{leb, eqb}
-use lib.IntN.{ℤ, pos}
-use lib.ListN.{length, take}
-use Rattle.laws.specs.Index.{every}
+use lib.IntN.{ℤ, pos, _+ℤ_, _*ℤ_}
+use lib.ListN.{length, getD, take}
+use lib.Signed.{shrZ}
+use Rattle.laws.specs.Index.{sumTo, every}
 use Rattle.laws.specs.First.{firstFail}
 use Rattle.laws.specs.declared.Found.the-variants.{Nothing}
 use Rattle.answers.specs.Verdict.{Meets}
@@ -23,12 +24,16 @@ use Rattle.planes.specs.AcRead.{cut, acBlocks, readAc}
 use Rattle.planes.specs.AcWrite.{tokens, missing, acBytes, writeAc}
 use Rattle.boxes.specs.Box.{boxOf}
 use Rattle.boxes.specs.Order.{HandedOut}
+use Rattle.kernel.specs.Cosines.{kernel}
+use Rattle.transform.specs.Zigzag.{zigzag}
 use Rattle.transform.specs.Picture as blockwise
 use Rattle.transform.specs.Call.{firstBadQuantiser, inverseTransform}
 use Rattle.rounding.specs.Near.{top}
 use Rattle.pixel.specs.declared.Setting.{Setting}
+use Rattle.pixel.specs.Pixels.{component}
+use Rattle.pixel.specs.Steps.{merged}
 use Rattle.settings.specs.Tests.{inRanges, plain, srgbAllowed, lengthsRight, entryRight}
-use Rattle.merge.specs.Picture.{picture, merge}
+use Rattle.merge.specs.Picture.{pixelAt, picture, merge}
 
 -- what was written is right; and where 01 has values, these were written
 pub record Exactly {A : Type 0} (Right : List A → Type 0) (after : List A) (answer : Answer) : Type 0 where
@@ -119,3 +124,24 @@ pub record DemandTwo : Type 0 where
   pub merges : (s : Setting) (pixels : ℕ) (base residual : List ℤ) (table : List ℕ) (before after : List ℕ) (answer : Answer)
       → Meets 0 (merge s pixels base residual table (length before)) before after answer
       → Exactly (Merged s pixels base residual table (length before)) after answer
+
+-- ---- the same value by value
+
+-- "floor((sum of K(x,u) K(y,v) S + 2^27) / 2^28) + 2^(7+R)", S being "the value times its quantiser", both "in zigzag order"
+abbrev pub sampleAt : ℕ → List ℤ → List ℕ → ℕ → ℕ → ℕ → ℤ
+sampleAt refinement values quantisers block y x =
+    shrZ (sumTo 8 (λ v. sumTo 8 (λ u. kernel x u *ℤ kernel y v *ℤ (getD values (block * 64 + zigzag v u) (pos 0) *ℤ pos (getD quantisers (zigzag v u) 0)))) +ℤ pos (2 ^ 27)) (2 ^ 28)
+    +ℤ pos (2 ^ (7 + refinement))
+
+-- "The sample at row y, column x"; "a block's samples stand row by row"
+abbrev pub SamplesAre : Type 0
+SamplesAre =
+    (refinement blocks : ℕ) (values : List ℤ) (quantisers : List ℕ) (room : ℕ) (ys : List ℤ) → Sampled refinement blocks values quantisers room ys
+    → (block y x : ℕ) → block < blocks → y < 8 → x < 8 → getD ys (block * 64 + (y * 8 + x)) (pos 0) ≡ sampleAt refinement values quantisers block y x
+
+-- the five steps for each pixel; "component planes follow one another"
+abbrev pub ResultsAre : Type 0
+ResultsAre =
+    (s : Setting) (pixels : ℕ) (base residual : List ℤ) (table : List ℕ) (room : ℕ) (ys : List ℕ) → Merged s pixels base residual table room ys
+    → (k p : ℕ) → k < s .components → p < pixels
+    → getD ys (k * pixels + p) 0 ≡ component k (merged s table (pixelAt (s .components) pixels base p) (pixelAt (s .components) pixels residual p))
