@@ -1,3 +1,9 @@
+pub mod Rows
+pub mod Stops
+pub mod Walked
+pub mod One
+pub mod Two
+pub mod Values
 pub mod Held
 pub mod Three
 pub mod Cases

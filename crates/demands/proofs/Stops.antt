@@ -1,0 +1,174 @@
+-- With which numbers the readers of planes stop, in which block, and how many values and bytes they read. Assumes nothing.
+use mathlib.Core.Path.{_≡_, refl, ap, _∙_}
+use mathlib.Core.Bool.{Bool}
+use mathlib.Core.List.{List, [], _∷_}
+use mathlib.Core.Option.{Option, none, some}
+use Prim.Native.Nat.{ℕ, zero, suc, _+_, _-_, _*_, _/_, _%_, _^_, _≤_, _<_}
+use native.Mathlib.Omega.{arith}
+use lib.Dec.{eqb, ltb, leb}
+use lib.IntN.{ℤ, pos, negsuc}
+use lib.ListN.{length, take, drop, length-append, length-drop}
+use lib.Seq.{length-take-le}
+use Rattle.laws.proofs.Choices.{by-test}
+use Rattle.answers.specs.Verdict.{given}
+use Rattle.bits.specs.Digits.{bin}
+use Rattle.bits.specs.Source.{Source, Out, got, stopped, opened, afterFF, nextByte, takeFrom, takeBit, onlyPadding}
+use Rattle.bits.specs.Reader.{Reader, andThen}
+use Rattle.codes.specs.Table.{Table}
+use Rattle.codes.specs.Read.{codeFrom, takeCode}
+use Rattle.planes.specs.Plane.{Plane, read, broken, onto, inBlock, closed}
+use Rattle.planes.specs.Dc.{newDc, dcBlocks}
+use Rattle.planes.specs.Task.{Task, walk, ended}
+use Rattle.planes.specs.AcRead.{takeNumber, endRun, meaning, taskAt, position, blockEnd, acBlock, cut, acBlocks}
+use Rattle.demands.specs.One.{Rows}
+use Rattle.demands.proofs.Rows.{Keeps, gives, refuses, need-keeps}
+
+abbrev Any : {A : Type 0} → A → Type 0
+Any a = Unit {0}
+
+-- how many values blocks have in all
+pub sizes : List (List ℤ) → ℕ
+sizes [] = 0
+sizes (b ∷ bs) = length b + sizes bs
+
+-- ---- readers: P of the number if one stops; else Q of the value, and no byte is lost
+
+module _ (P : ℕ → Type 0) (all : ℕ) where
+  abbrev Kept : Source → Type 0
+  Kept s = s .seen + length (s .coming) ≡ all
+
+  abbrev Stops : {A : Type 0} → (A → Type 0) → Out A → Type 0
+  Stops Q (got a s) = Q a × Kept s
+  Stops Q (stopped x) = P (x .number)
+
+  then : {A B : Type 0} (Q : A → Type 0) (R : B → Type 0) (f : A → Reader B) (o : Out A) → Stops Q o → ((a : A) → Q a → (s : Source) → Kept s → Stops R (f a s)) → Stops R (andThen f o)
+  then Q R f (got a s) h g = g a (h .0) s (h .1)
+  then Q R f (stopped x) h g = h
+
+  module _ (p12 : P 12) (p13 : P 13) where
+    after-ff : (coming : List ℕ) (seen : ℕ) → seen + suc (length coming) ≡ all → Stops Any (afterFF coming seen)
+    unfolding afterFF opened
+    after-ff [] seen k = p12
+    after-ff (zero ∷ coming) seen k = (tt, omega arith)
+    after-ff (suc v ∷ coming) seen k = p13
+
+    bit-from : (pending : List Bool) (coming : List ℕ) (seen : ℕ) → seen + length coming ≡ all → Stops Any (takeFrom pending coming seen)
+    unfolding takeFrom nextByte opened
+    bit-from [] [] seen k = p12
+    bit-from [] (byte ∷ coming) seen k = by-test (Stops Any) (eqb byte 255) (λ e. after-ff coming seen k) (λ e. (tt, omega arith))
+    bit-from (b ∷ pending) coming seen k = (tt, k)
+
+    bit : (s : Source) → Kept s → Stops Any (takeBit s)
+    unfolding takeBit
+    bit s k = bit-from (s .pending) (s .coming) (s .seen) k
+
+    module _ (p14 : P 14) (p15 : P 15) (p16 : P 16) (p17 : P 17) where
+      code-from : (counts values : List ℕ) (over : ℕ) (s : Source) → Kept s → Stops Any (codeFrom counts values over s)
+      unfolding codeFrom
+      code-from [] values over s k = p14
+      code-from (n ∷ counts) values over s k =
+          then Any Any _ (takeBit s) (bit s k) λ b h t l.
+          by-test (λ (m : Reader ℕ). Stops Any (m t)) (ltb (2 * over + bin b) n) (λ e. (tt, l)) (λ e. code-from counts (drop n values) (2 * over + bin b - n) t l)
+
+      number-from : (n v : ℕ) (s : Source) → Kept s → Stops Any (takeNumber n v s)
+      unfolding takeNumber
+      number-from zero v s k = (tt, k)
+      number-from (suc n) v s k = then Any Any _ (takeBit s) (bit s k) λ b h t l. number-from n (2 * v + bin b) t l
+
+      run-end : (left r : ℕ) (s : Source) → Kept s → Stops Any (endRun left r s)
+      unfolding endRun
+      run-end left r s k =
+          then Any Any _ (takeNumber r 0 s) (number-from r 0 s k) λ e h t l.
+          by-test (λ (m : Reader Task). Stops Any (m t)) (leb (2 ^ r + e) left) (λ q. (tt, l)) (λ q. p17)
+
+      meant : (left r s : ℕ) (t : Source) → Kept t → Stops Any (meaning left r s t)
+      unfolding meaning
+      meant left r zero t k = by-test (λ (m : Reader Task). Stops Any (m t)) (ltb r 15) (λ q. run-end left r t k) (λ q. (tt, k))
+      meant left r (suc zero) t k = then Any Any _ (takeBit t) (bit t k) λ b h u l. (tt, l)
+      meant left r (suc (suc s)) t k = p15
+
+      task-at : (codes : Table) (left : ℕ) (o : Option Task) (s : Source) → Kept s → Stops Any (taskAt codes left o s)
+      unfolding taskAt takeCode
+      task-at codes left (some t) s k = (tt, k)
+      task-at codes left none s k =
+          then Any Any _ (codeFrom (codes .counts) (codes .values) 0 s) (code-from (codes .counts) (codes .values) 0 s k) λ v h t l. meant left (v / 16) (v % 16) t l
+
+      at-position : (t : Task) (c : ℤ) (s : Source) → Kept s → Stops Any (position t c s)
+      unfolding position
+      at-position t (pos zero) s k = (tt, k)
+      at-position t (pos (suc n)) s k = then Any Any _ (takeBit s) (bit s k) λ b h u l. (tt, l)
+      at-position t (negsuc n) s k = then Any Any _ (takeBit s) (bit s k) λ b h u l. (tt, l)
+
+      abbrev Long : ℕ → List ℤ × Option Task → Type 0
+      Long n r = length (r .0) ≡ n
+
+      at-end : (o : Option Task) (s : Source) → Kept s → Stops (Long 0) (blockEnd o s)
+      unfolding blockEnd
+      at-end none s k = (refl, k)
+      at-end (some (ended n)) s k = (refl, k)
+      at-end (some (walk n sign)) s k = p16
+
+      one-block : (codes : Table) (left : ℕ) (o : Option Task) (values : List ℤ) (s : Source) → Kept s → Stops (Long (length values)) (acBlock codes left o values s)
+      unfolding acBlock
+      one-block codes left o [] s k = at-end o s k
+      one-block codes left o (c ∷ values) s k =
+          then Any (Long (suc (length values))) _ (taskAt codes left o s) (task-at codes left o s k) λ t h u l.
+          then Any (Long (suc (length values))) _ (position t c u) (at-position t c u l) λ x i v m.
+          then (Long (length values)) (Long (suc (length values))) _ (acBlock codes left (x .1) values v) (one-block codes left (x .1) values v m) λ r j w n. (ap suc j, n)
+
+  -- ---- blocks one after another: n values, or P of the number and a block below `upto`
+
+  abbrev pub Blocks : ℕ → ℕ → Plane → Type 0
+  Blocks upto n (read values s) = (length values ≡ n) × Kept s
+  Blocks upto n (broken r) = P (r .number) × (r .place < upto)
+
+  in-front : (upto n m : ℕ) (values : List ℤ) (p : Plane) → length values + n ≡ m → Blocks upto n p → Blocks upto m (onto values p)
+  unfolding onto
+  in-front upto n m values (read more s) e h = (length-append values more ∙ omega (arith, h .0), h .1)
+  in-front upto n m values (broken r) e h = h
+
+  in-block : {A : Type 0} (Q : A → Type 0) (upto n block : ℕ) (next : A → Source → Plane) (o : Out A) → block < upto → Stops Q o
+      → ((a : A) → Q a → (s : Source) → Kept s → Blocks upto n (next a s)) → Blocks upto n (inBlock block next o)
+  in-block Q upto n block next (got a s) l h g = g a (h .0) s (h .1)
+  in-block Q upto n block next (stopped x) l h g = (h, l)
+
+  pub dc-blocks : P 12 → P 13 → (upto block : ℕ) (values : List ℤ) (s : Source) → block + length values ≡ upto → Kept s → Blocks upto (length values) (dcBlocks block values s)
+  unfolding dcBlocks
+  dc-blocks p12 p13 upto block [] s e k = (refl, k)
+  dc-blocks p12 p13 upto block (c ∷ values) s e k =
+      in-block Any upto (suc (length values)) block _ (takeBit s) (omega arith) (bit p12 p13 s k) λ b h t l.
+      in-front upto (length values) (suc (length values)) (newDc c b ∷ []) (dcBlocks (suc block) values t) (omega arith) (dc-blocks p12 p13 upto (suc block) values t (omega arith) l)
+
+  module _ (p12 : P 12) (p13 : P 13) (p14 : P 14) (p15 : P 15) (p16 : P 16) (p17 : P 17) where
+    pub ac-blocks : (codes : Table) (upto block : ℕ) (o : Option Task) (bs : List (List ℤ)) (s : Source) → block + length bs ≡ upto → Kept s → Blocks upto (sizes bs) (acBlocks codes block o bs s)
+    unfolding acBlocks sizes
+    ac-blocks codes upto block o [] s e k = (refl, k)
+    ac-blocks codes upto block o (b ∷ bs) s e k =
+        in-block (λ (r : List ℤ × Option Task). length (r .0) ≡ length b) upto (length b + sizes bs) block _ (acBlock codes (suc (length bs)) o b s) (omega arith)
+        (one-block p12 p13 p14 p15 p16 p17 codes (suc (length bs)) o b s k) λ r h t l.
+        in-front upto (sizes bs) (length b + sizes bs) (r .0) (acBlocks codes (suc block) (r .1) bs t) (omega (arith, h)) (ac-blocks codes upto (suc block) (r .1) bs t (omega arith) l)
+
+  -- ---- the plane closed
+
+  pub closed-keeps : {table : Rows} {room : ℕ} (upto n : ℕ) (p : Plane) → n ≤ room → ((number place : ℕ) → P number → place < upto → table number place)
+      → ((place : ℕ) → place ≤ all → table 18 place) → Blocks upto n p → Keeps table room (closed p)
+  unfolding closed
+  closed-keeps upto n (read values s) l f g h =
+      need-keeps (onlyPadding s) 18 (s .seen) (given values) (λ e. g (s .seen) (omega (arith, h .1))) (λ e. gives (omega (arith, h .0)))
+  closed-keeps upto n (broken r) l f g h = refuses (f (r .number) (r .place) (h .0) (h .1))
+
+-- ---- blocks of 63 values
+
+pub cut-sizes : (n : ℕ) (values : List ℤ) → length values ≡ 63 * n → sizes (cut n values) ≡ 63 * n
+unfolding cut sizes
+cut-sizes zero values e = refl
+cut-sizes (suc n) values e =
+    let d : length (drop 63 values) ≡ length values - 63 = length-drop 63 values in
+    let t : length (take 63 values) ≡ 63 = length-take-le 63 values (omega arith) in
+    let i : sizes (cut n (drop 63 values)) ≡ 63 * n = cut-sizes n (drop 63 values) (omega arith) in
+    omega arith
+
+pub cut-length : (n : ℕ) (values : List ℤ) → length (cut n values) ≡ n
+unfolding cut
+cut-length zero values = refl
+cut-length (suc n) values = ap suc (cut-length n (drop 63 values))

@@ -1,0 +1,217 @@
+-- Demand 2 holds. Assumes nothing.
+use mathlib.Core.Path.{_≡_, refl, sym, ap, subst, _∙_}
+use mathlib.Core.Bool.{true}
+use mathlib.Core.List.{List, [], _∷_}
+use mathlib.Core.Option.{none}
+use Prim.Native.Nat.{ℕ, _-_, _*_, _≤_}
+use native.Mathlib.Omega.{arith}
+use borrow.Author.Tests.{eqb-true, eq-eqb, leb-true, le-leb}
+use lib.Dec.{leb, eqb}
+use lib.IntN.{ℤ, pos}
+use lib.ListN.{length, take, drop}
+use lib.Seq.{take-append-seam}
+use Rattle.laws.specs.Index.{every}
+use Rattle.laws.specs.First.{firstFail}
+use Rattle.answers.specs.Verdict.{Verdict, given, refused, fitting, Meets}
+use Rattle.answers.specs.declared.Refusal.{Refusal}
+use Rattle.answers.specs.declared.Answer.{Answer}
+use Rattle.answers.proofs.Given.{need-given, unless-given}
+use Rattle.levels.specs.Level.{firstOutside}
+use Rattle.levels.specs.declared.Part.the-variants.{Dc, Ac, Whole}
+use Rattle.bits.specs.Source.{Source, start, onlyPadding}
+use Rattle.codes.specs.Table.{Table, goodTable}
+use Rattle.planes.specs.Plane.{readable, writable, Plane, read, broken, closed}
+use Rattle.planes.specs.Dc.{dcBlocks, readDc, dcBytes, writeDc}
+use Rattle.planes.specs.AcRead.{cut, acBlocks, readAc}
+use Rattle.planes.specs.AcWrite.{tokens, missing, acBytes, writeAc}
+use Rattle.boxes.proofs.Order.{handed-given, given-handed}
+use Rattle.transform.specs.Picture as blockwise
+use Rattle.transform.specs.Call.{firstBadQuantiser, inverseTransform}
+use Rattle.rounding.specs.Near.{top}
+use Rattle.pixel.specs.declared.Setting.{Setting}
+use Rattle.settings.specs.Tests.{inRanges, plain, srgbAllowed, lengthsRight, entryRight}
+use Rattle.merge.specs.Picture.{picture, merge}
+use Rattle.demands.specs.One.{Rows}
+use Rattle.demands.specs.Two.{Exactly, DcRefined, AcRefined, DcCoded, AcCoded, Sampled, Merged, DemandTwo}
+use Rattle.demands.proofs.Rows.{Keeps, refuses, NoZero}
+use Rattle.demands.proofs.Walked.{box-keeps}
+use Rattle.demands.proofs.One.{dc-read-keeps, ac-read-keeps, dc-write-keeps, ac-write-keeps, transform-keeps, merge-keeps, box-zero, dc-read-zero, ac-read-zero, dc-write-zero, ac-write-zero, transform-zero, merge-zero}
+
+-- ---- from a verdict to what was written
+
+refused-given : {A : Type 0} {r : Refusal} {ys : List A} → refused r ≡ given ys → ⊥
+refused-given e = let z : _≡_ {A = ℕ} 0 1 = cc in omega arith
+
+module _ {A : Type 0} (zero : A) {Right : List A → Type 0} {table : Rows} (never : NoZero table) (before : List A) where
+  exactly : (v : Verdict A) → Keeps table (length before) v → ((ys : List A) → v ≡ given ys → Right ys) → ((ys : List A) → Right ys → v ≡ given ys)
+      → (after : List A) (answer : Answer) → Meets zero v before after answer → Exactly Right after answer
+  exactly (given ys) k f g after answer m =
+      let w : take (answer .place) after ≡ ys = rw (m .answered, m .held) (take-append-seam ys (drop (length ys) before)) in
+      record {
+        sound = λ e. subst Right (sym w) (f ys refl);
+        complete = λ zs r. (ap (λ (a : Answer). a .number) (m .answered), w ∙ same zs (g zs r));
+      }
+    where
+      same : (zs : List A) → given ys ≡ given zs → ys ≡ zs
+      same zs e = cc
+  exactly (refused r) (refuses t) f g after answer m =
+      record {
+        sound = λ e. absurd (never (r .place) (subst (λ (n : ℕ). table n (r .place)) (sym (ap (λ (a : Answer). a .number) (m .answered)) ∙ e) t));
+        complete = λ zs q. absurd (refused-given (g zs q));
+      }
+
+-- ---- values that fit
+
+module _ {A : Type 0} (room : ℕ) (xs ys : List A) where
+  fitted : fitting room xs ≡ given ys → (ys ≡ xs) × (length ys ≤ room)
+  fitted e =
+      let h = need-given (leb (length xs) room) 9 (length xs) (given xs) ys e in
+      let q : given xs ≡ given ys = h .1 in
+      let same : xs ≡ ys = cc in
+      (sym same, subst (λ (l : List A). length l ≤ room) same (leb-true (length xs) room (h .0)))
+
+  fits-given : ys ≡ xs → length ys ≤ room → fitting room xs ≡ given ys
+  fits-given e h = rw (← e, le-leb (length ys) room h)
+
+-- ---- a plane that was closed
+
+record ClosedOn (p : Plane) (ys : List ℤ) : Type 0 where
+  left : Source
+  refined : p ≡ read ys left
+  padded : onlyPadding left ≡ true
+
+closed-given : (p : Plane) (ys : List ℤ) → closed p ≡ given ys → ClosedOn p ys
+unfolding closed
+closed-given (broken r) ys e = absurd (refused-given e)
+closed-given (read values s) ys e =
+    let h = need-given (onlyPadding s) 18 (s .seen) (given values) ys e in
+    let q : given values ≡ given ys = h .1 in
+    let same : values ≡ ys = cc in
+    record { left = s; refined = ap (λ (l : List ℤ). read l s) same; padded = h .0 }
+
+given-closed : (p : Plane) (ys : List ℤ) (s : Source) → p ≡ read ys s → onlyPadding s ≡ true → closed p ≡ given ys
+unfolding closed
+given-closed p ys s e h = rw (e, h)
+
+-- ---- reading planes
+
+module _ (plane blocks : ℕ) (values : List ℤ) (bytes : List ℕ) (room : ℕ) where
+  dc-refined : (ys : List ℤ) → readDc plane blocks values bytes room ≡ given ys → DcRefined plane blocks values bytes room ys
+  unfolding readDc
+  dc-refined ys e =
+      let a = need-given (every (readable plane blocks)) 20 0 _ ys e in
+      let b = need-given (eqb (length values) blocks) 21 0 _ ys (a .1) in
+      let c = unless-given 11 (firstOutside Dc (plane - 1) values) _ ys (b .1) in
+      let d = need-given (leb blocks room) 9 blocks _ ys (c .1) in
+      let h = closed-given (dcBlocks 0 values (start bytes)) ys (d .1) in
+      record { counts = a .0; long = eqb-true (length values) blocks (b .0); ranged = c .0; fits = leb-true blocks room (d .0); left = h .left; refined = h .refined; padded = h .padded }
+
+  dc-given : (ys : List ℤ) → DcRefined plane blocks values bytes room ys → readDc plane blocks values bytes room ≡ given ys
+  unfolding readDc
+  dc-given ys h =
+      rw (h .counts, eq-eqb (length values) blocks (h .long), h .ranged, le-leb blocks room (h .fits))
+      (given-closed (dcBlocks 0 values (start bytes)) ys (h .left) (h .refined) (h .padded))
+
+  module _ (codes : Table) where
+    ac-refined : (ys : List ℤ) → readAc plane blocks codes values bytes room ≡ given ys → AcRefined plane blocks codes values bytes room ys
+    unfolding readAc
+    ac-refined ys e =
+        let a = need-given (every (readable plane blocks)) 20 0 _ ys e in
+        let b = need-given (eqb (length values) (63 * blocks)) 21 0 _ ys (a .1) in
+        let t = need-given (goodTable codes) 10 0 _ ys (b .1) in
+        let c = unless-given 11 (firstOutside Ac (plane - 1) values) _ ys (t .1) in
+        let d = need-given (leb (63 * blocks) room) 9 (63 * blocks) _ ys (c .1) in
+        let h = closed-given (acBlocks codes 0 none (cut blocks values) (start bytes)) ys (d .1) in
+        record { counts = a .0; long = eqb-true (length values) (63 * blocks) (b .0); good = t .0; ranged = c .0; fits = leb-true (63 * blocks) room (d .0); left = h .left; refined = h .refined; padded = h .padded }
+
+    ac-given : (ys : List ℤ) → AcRefined plane blocks codes values bytes room ys → readAc plane blocks codes values bytes room ≡ given ys
+    unfolding readAc
+    ac-given ys h =
+        rw (h .counts, eq-eqb (length values) (63 * blocks) (h .long), h .good, h .ranged, le-leb (63 * blocks) room (h .fits))
+        (given-closed (acBlocks codes 0 none (cut blocks values) (start bytes)) ys (h .left) (h .refined) (h .padded))
+
+-- ---- writing planes
+
+module _ (plane blocks : ℕ) (values : List ℤ) (room : ℕ) where
+  dc-coded : (ys : List ℕ) → writeDc plane blocks values room ≡ given ys → DcCoded plane blocks values room ys
+  unfolding writeDc
+  dc-coded ys e =
+      let a = need-given (every (writable plane blocks)) 20 0 _ ys e in
+      let b = need-given (eqb (length values) blocks) 21 0 _ ys (a .1) in
+      let c = unless-given 11 (firstOutside Dc plane values) _ ys (b .1) in
+      let h = fitted room (dcBytes values) ys (c .1) in
+      record { counts = a .0; long = eqb-true (length values) blocks (b .0); ranged = c .0; bytes = h .0; fits = h .1 }
+
+  coded-dc : (ys : List ℕ) → DcCoded plane blocks values room ys → writeDc plane blocks values room ≡ given ys
+  unfolding writeDc
+  coded-dc ys h = rw (h .counts, eq-eqb (length values) blocks (h .long), h .ranged) (fits-given room (dcBytes values) ys (h .bytes) (h .fits))
+
+  module _ (codes : Table) where
+    ac-coded : (ys : List ℕ) → writeAc plane blocks codes values room ≡ given ys → AcCoded plane blocks codes values room ys
+    unfolding writeAc
+    ac-coded ys e =
+        let a = need-given (every (writable plane blocks)) 20 0 _ ys e in
+        let b = need-given (eqb (length values) (63 * blocks)) 21 0 _ ys (a .1) in
+        let t = need-given (goodTable codes) 10 0 _ ys (b .1) in
+        let c = unless-given 11 (firstOutside Ac plane values) _ ys (t .1) in
+        let d = unless-given 19 (missing codes (tokens blocks values)) _ ys (c .1) in
+        let h = fitted room (acBytes blocks codes values) ys (d .1) in
+        record { counts = a .0; long = eqb-true (length values) (63 * blocks) (b .0); good = t .0; ranged = c .0; held = d .0; bytes = h .0; fits = h .1 }
+
+    coded-ac : (ys : List ℕ) → AcCoded plane blocks codes values room ys → writeAc plane blocks codes values room ≡ given ys
+    unfolding writeAc
+    coded-ac ys h =
+        rw (h .counts, eq-eqb (length values) (63 * blocks) (h .long), h .good, h .ranged, h .held) (fits-given room (acBytes blocks codes values) ys (h .bytes) (h .fits))
+
+-- ---- samples and merged results
+
+module _ (refinement blocks : ℕ) (values : List ℤ) (quantisers : List ℕ) (room : ℕ) where
+  sampled : (ys : List ℤ) → inverseTransform refinement blocks values quantisers room ≡ given ys → Sampled refinement blocks values quantisers room ys
+  unfolding inverseTransform
+  sampled ys e =
+      let a = need-given (every (leb refinement 4 ∷ leb blocks 1024 ∷ [])) 20 0 _ ys e in
+      let b = need-given (every (eqb (length values) (blocks * 64) ∷ eqb (length quantisers) 64 ∷ [])) 21 0 _ ys (a .1) in
+      let q = unless-given 22 (firstBadQuantiser quantisers) _ ys (b .1) in
+      let c = unless-given 11 (firstOutside Whole refinement values) _ ys (q .1) in
+      let h = fitted room (blockwise.picture refinement blocks values quantisers) ys (c .1) in
+      record { counts = a .0; lengths = b .0; quantised = q .0; ranged = c .0; samples = h .0; fits = h .1 }
+
+  sampled-given : (ys : List ℤ) → Sampled refinement blocks values quantisers room ys → inverseTransform refinement blocks values quantisers room ≡ given ys
+  unfolding inverseTransform
+  sampled-given ys h =
+      rw (h .counts, h .lengths, h .quantised, h .ranged) (fits-given room (blockwise.picture refinement blocks values quantisers) ys (h .samples) (h .fits))
+
+module _ (s : Setting) (pixels : ℕ) (base residual : List ℤ) (table : List ℕ) (room : ℕ) where
+  merged : (ys : List ℕ) → merge s pixels base residual table room ≡ given ys → Merged s pixels base residual table room ys
+  unfolding merge
+  merged ys e =
+      let a = need-given (inRanges s pixels) 20 0 _ ys e in
+      let b = need-given (plain s) 20 0 _ ys (a .1) in
+      let c = need-given (srgbAllowed s) 20 0 _ ys (b .1) in
+      let d = need-given (lengthsRight s pixels base residual table) 21 0 _ ys (c .1) in
+      let q = unless-given 11 (firstFail (length table) (entryRight (top (s .rb)) table)) _ ys (d .1) in
+      let h = fitted room (picture s pixels base residual table) ys (q .1) in
+      record { ranges = a .0; one = b .0; srgb = c .0; lengths = d .0; entries = q .0; results = h .0; fits = h .1 }
+
+  merged-given : (ys : List ℕ) → Merged s pixels base residual table room ys → merge s pixels base residual table room ≡ given ys
+  unfolding merge
+  merged-given ys h =
+      rw (h .ranges, h .one, h .srgb, h .lengths, h .entries) (fits-given room (picture s pixels base residual table) ys (h .results) (h .fits))
+
+pub demand-two : DemandTwo
+demand-two = record {
+  boxes = λ file kind instance before.
+      exactly 0 (box-zero file kind instance (length before)) before _ (box-keeps file kind instance (length before)) (given-handed file kind instance (length before)) (handed-given file kind instance (length before));
+  dcRead = λ plane blocks values bytes before.
+      exactly (pos 0) (dc-read-zero plane blocks values bytes (length before)) before _ (dc-read-keeps plane blocks values bytes (length before)) (dc-refined plane blocks values bytes (length before)) (dc-given plane blocks values bytes (length before));
+  acRead = λ plane blocks codes values bytes before.
+      exactly (pos 0) (ac-read-zero plane blocks values bytes (length before)) before _ (ac-read-keeps plane blocks codes values bytes (length before)) (ac-refined plane blocks values bytes (length before) codes) (ac-given plane blocks values bytes (length before) codes);
+  dcWrite = λ plane blocks values before.
+      exactly 0 (dc-write-zero plane values (length before)) before _ (dc-write-keeps plane blocks values (length before)) (dc-coded plane blocks values (length before)) (coded-dc plane blocks values (length before));
+  acWrite = λ plane blocks codes values before.
+      exactly 0 (ac-write-zero plane blocks codes values (length before)) before _ (ac-write-keeps plane blocks codes values (length before)) (ac-coded plane blocks values (length before) codes) (coded-ac plane blocks values (length before) codes);
+  transforms = λ refinement blocks values quantisers before.
+      exactly (pos 0) (transform-zero refinement blocks values quantisers (length before)) before _ (transform-keeps refinement blocks values quantisers (length before)) (sampled refinement blocks values quantisers (length before)) (sampled-given refinement blocks values quantisers (length before));
+  merges = λ s pixels base residual table before.
+      exactly 0 (merge-zero s pixels table (length before)) before _ (merge-keeps s pixels base residual table (length before)) (merged s pixels base residual table (length before)) (merged-given s pixels base residual table (length before));
+}

@@ -1,0 +1,57 @@
+-- Demand 2's samples and merged results, value by value. Assumes nothing.
+use mathlib.Core.Path.{_≡_, ap, _∙_}
+use mathlib.Core.List.{List}
+use Prim.Native.Nat.{ℕ, _+_, _*_, _/_, _%_, _^_, _<_}
+use native.Mathlib.Omega.{arith}
+use lib.Arith.{digits-div, digits-mod}
+use lib.IntN.{ℤ, pos, _+ℤ_, _*ℤ_}
+use lib.ListN.{getD}
+use lib.Signed.{shrZ}
+use Rattle.laws.specs.Index.{tab}
+use Rattle.laws.proofs.Lists.{length-tab, getD-tab}
+use Rattle.laws.proofs.Spread.{getD-join}
+use Rattle.laws.proofs.Sums.{sum-ext}
+use Rattle.kernel.specs.Cosines.{kernel}
+use Rattle.kernel.specs.Samples.{product, rowSum, doubleSum, rounded, sample, blockSamples}
+use Rattle.transform.specs.Zigzag.{zigzag, zigzagAt}
+use Rattle.transform.specs.Picture as blockwise
+use Rattle.transform.specs.Picture.{scaled, dequantised, centre}
+use Rattle.transform.proofs.Lengths.{block-length}
+use Rattle.pixel.specs.Pixels.{component}
+use Rattle.merge.specs.Picture.{mergedAt, planes, picture}
+use Rattle.demands.specs.Two.{sampleAt, SamplesAre, ResultsAre}
+
+-- ---- samples
+
+module _ (values : List ℤ) (quantisers : List ℕ) (block : ℕ) where
+  -- S of row frequency v and column frequency u
+  one-product : (v u : ℕ) → v < 8 → u < 8
+      → getD (dequantised values quantisers block) (v * 8 + u) (pos 0) ≡ getD values (block * 64 + zigzag v u) (pos 0) *ℤ pos (getD quantisers (zigzag v u) 0)
+  unfolding dequantised scaled zigzagAt
+  one-product v u hv hu =
+      getD-tab 64 (λ p. scaled (getD values (block * 64 + zigzagAt p) (pos 0)) (getD quantisers (zigzagAt p) 0)) (pos 0) (v * 8 + u) (omega arith)
+      ∙ rw (digits-div v hu, digits-mod v hu)
+
+  one-sample : (refinement y x : ℕ) → sample (dequantised values quantisers block) (centre refinement) x y ≡ sampleAt refinement values quantisers block y x
+  unfolding sample rounded doubleSum rowSum product centre
+  one-sample refinement y x =
+      ap (λ (t : ℤ). shrZ (t +ℤ pos (2 ^ 27)) (2 ^ 28) +ℤ pos (2 ^ (7 + refinement)))
+      (sum-ext 8 _ _ (λ v hv. sum-ext 8 _ _ (λ u hu. ap (λ (t : ℤ). kernel x u *ℤ kernel y v *ℤ t) (one-product v u hv hu))))
+
+pub samples-are : SamplesAre
+unfolding blockwise.picture blockSamples
+samples-are refinement blocks values quantisers room ys h block y x hb hy hx =
+    ap (λ (l : List ℤ). getD l (block * 64 + (y * 8 + x)) (pos 0)) (h .samples)
+    ∙ getD-join (pos 0) 64 blocks (λ b. blockSamples (dequantised values quantisers b) (centre refinement)) (λ b. block-length (dequantised values quantisers b) (centre refinement)) block (y * 8 + x) hb (omega arith)
+    ∙ getD-tab 64 (λ p. sample (dequantised values quantisers block) (centre refinement) (p % 8) (p / 8)) (pos 0) (y * 8 + x) (omega arith)
+    ∙ rw (digits-div y hx, digits-mod y hx) (one-sample values quantisers block refinement y x)
+
+-- ---- merged results
+
+pub results-are : ResultsAre
+unfolding picture planes mergedAt
+results-are s pixels base residual table room ys h k p hk hp =
+    let at : ℕ → ℕ → ℕ = λ j q. component j (mergedAt s pixels base residual table q) in
+    ap (λ (l : List ℕ). getD l (k * pixels + p) 0) (h .results)
+    ∙ getD-join 0 pixels (s .components) (λ j. tab pixels (at j)) (λ j. length-tab pixels (at j)) k p hk hp
+    ∙ getD-tab pixels (at k) 0 p hp

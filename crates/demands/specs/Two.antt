@@ -1,0 +1,147 @@
+-- Demand 2: box bytes, refined coefficients, samples and merged results are those of 01. A call hands out values exactly where 01 does, and
+-- then it has written 01's values.
+use mathlib.Core.Path.{_≡_}
+use mathlib.Core.Bool.{true}
+use mathlib.Core.List.{List, [], _∷_}
+use mathlib.Core.Option.{none}
+use Prim.Native.Nat.{ℕ, _+_, _-_, _*_, _^_, _≤_, _<_}
+use lib.Dec.{leb, eqb}
+use lib.IntN.{ℤ, pos, _+ℤ_, _*ℤ_}
+use lib.ListN.{length, getD, take}
+use lib.Signed.{shrZ}
+use Rattle.laws.specs.Index.{sumTo, every}
+use Rattle.laws.specs.First.{firstFail}
+use Rattle.laws.specs.declared.Found.the-variants.{Nothing}
+use Rattle.answers.specs.Verdict.{Meets}
+use Rattle.answers.specs.declared.Answer.{Answer}
+use Rattle.levels.specs.Level.{firstOutside}
+use Rattle.levels.specs.declared.Part.the-variants.{Dc, Ac, Whole}
+use Rattle.bits.specs.Source.{Source, start, onlyPadding}
+use Rattle.codes.specs.Table.{Table, goodTable}
+use Rattle.planes.specs.Plane.{readable, writable, read}
+use Rattle.planes.specs.Dc.{dcBlocks, readDc, dcBytes, writeDc}
+use Rattle.planes.specs.AcRead.{cut, acBlocks, readAc}
+use Rattle.planes.specs.AcWrite.{tokens, missing, acBytes, writeAc}
+use Rattle.boxes.specs.Box.{boxOf}
+use Rattle.boxes.specs.Order.{HandedOut}
+use Rattle.kernel.specs.Cosines.{kernel}
+use Rattle.transform.specs.Zigzag.{zigzag}
+use Rattle.transform.specs.Picture as blockwise
+use Rattle.transform.specs.Call.{firstBadQuantiser, inverseTransform}
+use Rattle.rounding.specs.Near.{top}
+use Rattle.pixel.specs.declared.Setting.{Setting}
+use Rattle.pixel.specs.Pixels.{component}
+use Rattle.pixel.specs.Steps.{merged}
+use Rattle.settings.specs.Tests.{inRanges, plain, srgbAllowed, lengthsRight, entryRight}
+use Rattle.merge.specs.Picture.{pixelAt, picture, merge}
+
+-- what was written is right; and where 01 has values, these were written
+pub record Exactly {A : Type 0} (Right : List A → Type 0) (after : List A) (answer : Answer) : Type 0 where
+  pub sound : answer .number ≡ 0 → Right (take (answer .place) after)
+  pub complete : (ys : List A) → Right ys → (answer .number ≡ 0) × (take (answer .place) after ≡ ys)
+
+-- ---- boxes: `HandedOut` is 01's sentence, "exactly if an ordering of all of them exists .."
+
+-- ---- planes
+
+-- "Plane j takes level j-1 values to level j"; "After the last block the unread bits of the byte must be ones and no byte may follow"
+pub record DcRefined (plane blocks : ℕ) (values : List ℤ) (bytes : List ℕ) (room : ℕ) (ys : List ℤ) : Type 0 where
+  pub counts : every (readable plane blocks) ≡ true
+  pub long : length values ≡ blocks
+  pub ranged : firstOutside Dc (plane - 1) values ≡ Nothing
+  pub fits : blocks ≤ room
+  pub left : Source
+  pub refined : dcBlocks 0 values (start bytes) ≡ read ys left
+  pub padded : onlyPadding left ≡ true
+
+pub record AcRefined (plane blocks : ℕ) (codes : Table) (values : List ℤ) (bytes : List ℕ) (room : ℕ) (ys : List ℤ) : Type 0 where
+  pub counts : every (readable plane blocks) ≡ true
+  pub long : length values ≡ 63 * blocks
+  pub good : goodTable codes ≡ true
+  pub ranged : firstOutside Ac (plane - 1) values ≡ Nothing
+  pub fits : 63 * blocks ≤ room
+  pub left : Source
+  pub refined : acBlocks codes 0 none (cut blocks values) (start bytes) ≡ read ys left
+  pub padded : onlyPadding left ≡ true
+
+-- "The writer takes level j values, j 1 to 4"
+pub record DcCoded (plane blocks : ℕ) (values : List ℤ) (room : ℕ) (ys : List ℕ) : Type 0 where
+  pub counts : every (writable plane blocks) ≡ true
+  pub long : length values ≡ blocks
+  pub ranged : firstOutside Dc plane values ≡ Nothing
+  pub bytes : ys ≡ dcBytes values
+  pub fits : length ys ≤ room
+
+pub record AcCoded (plane blocks : ℕ) (codes : Table) (values : List ℤ) (room : ℕ) (ys : List ℕ) : Type 0 where
+  pub counts : every (writable plane blocks) ≡ true
+  pub long : length values ≡ 63 * blocks
+  pub good : goodTable codes ≡ true
+  pub ranged : firstOutside Ac plane values ≡ Nothing
+  pub held : missing codes (tokens blocks values) ≡ Nothing
+  pub bytes : ys ≡ acBytes blocks codes values
+  pub fits : length ys ≤ room
+
+-- ---- samples
+
+pub record Sampled (refinement blocks : ℕ) (values : List ℤ) (quantisers : List ℕ) (room : ℕ) (ys : List ℤ) : Type 0 where
+  pub counts : every (leb refinement 4 ∷ leb blocks 1024 ∷ []) ≡ true
+  pub lengths : every (eqb (length values) (blocks * 64) ∷ eqb (length quantisers) 64 ∷ []) ≡ true
+  pub quantised : firstBadQuantiser quantisers ≡ Nothing
+  pub ranged : firstOutside Whole refinement values ≡ Nothing
+  pub samples : ys ≡ blockwise.picture refinement blocks values quantisers
+  pub fits : length ys ≤ room
+
+-- ---- merged results
+
+pub record Merged (s : Setting) (pixels : ℕ) (base residual : List ℤ) (table : List ℕ) (room : ℕ) (ys : List ℕ) : Type 0 where
+  pub ranges : inRanges s pixels ≡ true
+  pub one : plain s ≡ true
+  pub srgb : srgbAllowed s ≡ true
+  pub lengths : lengthsRight s pixels base residual table ≡ true
+  pub entries : firstFail (length table) (entryRight (top (s .rb)) table) ≡ Nothing
+  pub results : ys ≡ picture s pixels base residual table
+  pub fits : length ys ≤ room
+
+-- ---- the demand: whatever is lent, a call that meets its promise
+
+pub record DemandTwo : Type 0 where
+  pub boxes : (file : List ℕ) (kind instance : ℕ) (before after : List ℕ) (answer : Answer)
+      → Meets 0 (boxOf file kind instance (length before)) before after answer → Exactly (HandedOut file kind instance (length before)) after answer
+  pub dcRead : (plane blocks : ℕ) (values : List ℤ) (bytes : List ℕ) (before after : List ℤ) (answer : Answer)
+      → Meets (pos 0) (readDc plane blocks values bytes (length before)) before after answer
+      → Exactly (DcRefined plane blocks values bytes (length before)) after answer
+  pub acRead : (plane blocks : ℕ) (codes : Table) (values : List ℤ) (bytes : List ℕ) (before after : List ℤ) (answer : Answer)
+      → Meets (pos 0) (readAc plane blocks codes values bytes (length before)) before after answer
+      → Exactly (AcRefined plane blocks codes values bytes (length before)) after answer
+  pub dcWrite : (plane blocks : ℕ) (values : List ℤ) (before after : List ℕ) (answer : Answer)
+      → Meets 0 (writeDc plane blocks values (length before)) before after answer → Exactly (DcCoded plane blocks values (length before)) after answer
+  pub acWrite : (plane blocks : ℕ) (codes : Table) (values : List ℤ) (before after : List ℕ) (answer : Answer)
+      → Meets 0 (writeAc plane blocks codes values (length before)) before after answer
+      → Exactly (AcCoded plane blocks codes values (length before)) after answer
+  pub transforms : (refinement blocks : ℕ) (values : List ℤ) (quantisers : List ℕ) (before after : List ℤ) (answer : Answer)
+      → Meets (pos 0) (inverseTransform refinement blocks values quantisers (length before)) before after answer
+      → Exactly (Sampled refinement blocks values quantisers (length before)) after answer
+  pub merges : (s : Setting) (pixels : ℕ) (base residual : List ℤ) (table : List ℕ) (before after : List ℕ) (answer : Answer)
+      → Meets 0 (merge s pixels base residual table (length before)) before after answer
+      → Exactly (Merged s pixels base residual table (length before)) after answer
+
+-- ---- the same value by value
+
+-- "floor((sum of K(x,u) K(y,v) S + 2^27) / 2^28) + 2^(7+R)", S being "the value times its quantiser", both "in zigzag order"
+abbrev pub sampleAt : ℕ → List ℤ → List ℕ → ℕ → ℕ → ℕ → ℤ
+sampleAt refinement values quantisers block y x =
+    shrZ (sumTo 8 (λ v. sumTo 8 (λ u. kernel x u *ℤ kernel y v *ℤ (getD values (block * 64 + zigzag v u) (pos 0) *ℤ pos (getD quantisers (zigzag v u) 0)))) +ℤ pos (2 ^ 27)) (2 ^ 28)
+    +ℤ pos (2 ^ (7 + refinement))
+
+-- "The sample at row y, column x"; "a block's samples stand row by row"
+abbrev pub SamplesAre : Type 0
+SamplesAre =
+    (refinement blocks : ℕ) (values : List ℤ) (quantisers : List ℕ) (room : ℕ) (ys : List ℤ) → Sampled refinement blocks values quantisers room ys
+    → (block y x : ℕ) → block < blocks → y < 8 → x < 8 → getD ys (block * 64 + (y * 8 + x)) (pos 0) ≡ sampleAt refinement values quantisers block y x
+
+-- the five steps for each pixel; "component planes follow one another"
+abbrev pub ResultsAre : Type 0
+ResultsAre =
+    (s : Setting) (pixels : ℕ) (base residual : List ℤ) (table : List ℕ) (room : ℕ) (ys : List ℕ) → Merged s pixels base residual table room ys
+    → (k p : ℕ) → k < s .components → p < pixels
+    → getD ys (k * pixels + p) 0 ≡ component k (merged s table (pixelAt (s .components) pixels base p) (pixelAt (s .components) pixels residual p))
