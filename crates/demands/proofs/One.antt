@@ -9,6 +9,7 @@ use borrow.Author.Tests.{eqb-true, leb-true, leb-false}
 use lib.Dec.{T, eqb, leb}
 use lib.IntN.{ℤ, pos}
 use lib.ListN.{length, getD}
+use Rattle.listing_text.specs.Text.{listing, listed}
 use Rattle.laws.specs.Index.{every}
 use Rattle.laws.specs.First.{firstFail}
 use Rattle.laws.specs.declared.Found.{Found}
@@ -32,7 +33,7 @@ use Rattle.settings.specs.Tests.{inRanges, plain, srgbAllowed, lengthsRight, en
 use Rattle.merge.specs.Picture as merging
 use Rattle.merge.specs.Picture.{merge}
 use Rattle.merge.proofs.Order.{picture-long}
-use Rattle.demands.specs.One.{stands, First, packetRows, boxRows, dcReadRows, acReadRows, dcWriteRows, acWriteRows, transformRows, mergeRows, DemandOne}
+use Rattle.demands.specs.One.{stands, First, packetRows, boxRows, listRows, dcReadRows, acReadRows, dcWriteRows, acWriteRows, transformRows, mergeRows, DemandOne}
 use Rattle.demands.proofs.Rows.{Keeps, need-keeps, unless-keeps, fitting-keeps, first-index, NoZero, answered}
 use Rattle.demands.proofs.Stops.{dc-blocks, ac-blocks, closed-keeps, sizes, cut-sizes, cut-length}
 use Rattle.demands.proofs.Walked.{box-keeps}
@@ -75,6 +76,12 @@ ac-read-keeps plane blocks codes values bytes room =
     let l : 63 * blocks ≤ room = leb-true (63 * blocks) room g in
     closed-keeps AcStop (length bytes) blocks (sizes (cut blocks values)) (acBlocks codes 0 none (cut blocks values) (start bytes)) (omega arith) (λ number place h k. inr (inr (inr (inl (h, k))))) (λ place h. inr (inr (inr (inr (tt, h)))))
     (ac-blocks AcStop (length bytes) tt tt tt tt tt tt codes blocks 0 none (cut blocks values) (start bytes) (omega arith) (omega arith))
+
+-- ---- the listing
+
+pub list-keeps : (file : List ℕ) (room : ℕ) → Keeps (listRows file room) room (listed file room)
+unfolding listed listRows
+list-keeps file room = fitting-keeps (listing file) (λ h. (tt, (refl, h)))
 
 -- ---- writing planes
 
@@ -141,6 +148,10 @@ pub ac-read-zero : (plane blocks : ℕ) (values : List ℤ) (bytes : List ℕ) (
 unfolding acReadRows
 ac-read-zero plane blocks values bytes room p = ⊎-elim (λ h. h .0) (⊎-elim (λ h. h .0) (⊎-elim (λ h. h .0) (⊎-elim (λ h. h .0) (λ h. h .0))))
 
+pub list-zero : (file : List ℕ) (room : ℕ) → NoZero (listRows file room)
+unfolding listRows
+list-zero file room p h = h .0
+
 pub dc-write-zero : (plane : ℕ) (values : List ℤ) (room : ℕ) → NoZero (dcWriteRows plane values room)
 unfolding dcWriteRows
 dc-write-zero plane values room p = ⊎-elim (λ h. h .0) (⊎-elim (λ h. h .0) (λ h. h .0))
@@ -160,6 +171,7 @@ merge-zero s pixels table room p = ⊎-elim (λ h. h .0) (⊎-elim (λ h. h .0) 
 pub demand-one : DemandOne
 demand-one = record {
   boxes = λ file kind instance before. answered 0 (box-zero file kind instance (length before)) before _ (box-keeps file kind instance (length before));
+  listings = λ file before. answered 0 (list-zero file (length before)) before _ (list-keeps file (length before));
   dcRead = λ plane blocks values bytes before. answered (pos 0) (dc-read-zero plane blocks values bytes (length before)) before _ (dc-read-keeps plane blocks values bytes (length before));
   acRead = λ plane blocks codes values bytes before. answered (pos 0) (ac-read-zero plane blocks values bytes (length before)) before _ (ac-read-keeps plane blocks codes values bytes (length before));
   dcWrite = λ plane blocks values before. answered 0 (dc-write-zero plane values (length before)) before _ (dc-write-keeps plane blocks values (length before));

@@ -10,6 +10,7 @@ use lib.Dec.{leb, eqb}
 use lib.IntN.{ℤ, pos}
 use lib.ListN.{length, take, drop}
 use lib.Seq.{take-append-seam}
+use Rattle.listing_text.specs.Text.{listing, listed}
 use Rattle.laws.specs.Index.{every}
 use Rattle.laws.specs.First.{firstFail}
 use Rattle.answers.specs.Verdict.{Verdict, given, refused, fitting, Meets}
@@ -32,10 +33,10 @@ use Rattle.pixel.specs.declared.Setting.{Setting}
 use Rattle.settings.specs.Tests.{inRanges, plain, srgbAllowed, lengthsRight, entryRight}
 use Rattle.merge.specs.Picture.{picture, merge}
 use Rattle.demands.specs.One.{Rows}
-use Rattle.demands.specs.Two.{Exactly, DcRefined, AcRefined, DcCoded, AcCoded, Sampled, Merged, DemandTwo}
+use Rattle.demands.specs.Two.{Exactly, Listed, DcRefined, AcRefined, DcCoded, AcCoded, Sampled, Merged, DemandTwo}
 use Rattle.demands.proofs.Rows.{Keeps, refuses, NoZero}
 use Rattle.demands.proofs.Walked.{box-keeps}
-use Rattle.demands.proofs.One.{dc-read-keeps, ac-read-keeps, dc-write-keeps, ac-write-keeps, transform-keeps, merge-keeps, box-zero, dc-read-zero, ac-read-zero, dc-write-zero, ac-write-zero, transform-zero, merge-zero}
+use Rattle.demands.proofs.One.{list-keeps, list-zero, dc-read-keeps, ac-read-keeps, dc-write-keeps, ac-write-keeps, transform-keeps, merge-keeps, box-zero, dc-read-zero, ac-read-zero, dc-write-zero, ac-write-zero, transform-zero, merge-zero}
 
 -- ---- from a verdict to what was written
 
@@ -198,10 +199,21 @@ module _ (s : Setting) (pixels : ℕ) (base residual : List ℤ) (table : List �
   merged-given ys h =
       rw (h .ranges, h .one, h .srgb, h .lengths, h .entries) (fits-given room (picture s pixels base residual table) ys (h .results) (h .fits))
 
+module _ (file : List ℕ) (room : ℕ) where
+  listed-text : (ys : List ℕ) → listed file room ≡ given ys → Listed file room ys
+  unfolding listed
+  listed-text ys e = let h = fitted room (listing file) ys e in record { text = h .0; fits = h .1 }
+
+  text-listed : (ys : List ℕ) → Listed file room ys → listed file room ≡ given ys
+  unfolding listed
+  text-listed ys h = fits-given room (listing file) ys (h .text) (h .fits)
+
 pub demand-two : DemandTwo
 demand-two = record {
   boxes = λ file kind instance before.
       exactly 0 (box-zero file kind instance (length before)) before _ (box-keeps file kind instance (length before)) (given-handed file kind instance (length before)) (handed-given file kind instance (length before));
+  listings = λ file before.
+      exactly 0 (list-zero file (length before)) before _ (list-keeps file (length before)) (listed-text file (length before)) (text-listed file (length before));
   dcRead = λ plane blocks values bytes before.
       exactly (pos 0) (dc-read-zero plane blocks values bytes (length before)) before _ (dc-read-keeps plane blocks values bytes (length before)) (dc-refined plane blocks values bytes (length before)) (dc-given plane blocks values bytes (length before));
   acRead = λ plane blocks codes values bytes before.

@@ -8,6 +8,7 @@ use Prim.Native.Nat.{ℕ, _+_, _-_, _*_, _≤_, _<_}
 use lib.Dec.{T, eqb}
 use lib.IntN.{ℤ, pos}
 use lib.ListN.{length, getD, drop, replicate}
+use Rattle.listing_text.specs.Text.{listing, listed}
 use Rattle.laws.specs.declared.Found.the-variants.{Nothing}
 use Rattle.answers.specs.Verdict.{refusal, Meets}
 use Rattle.answers.specs.declared.Answer.{Answer}
@@ -138,6 +139,10 @@ acReadRows plane blocks values bytes room =
     or rows (12 ∷ 13 ∷ 14 ∷ 15 ∷ 16 ∷ 17 ∷ []) (blockOf blocks)
     or rows (18 ∷ []) (readOf bytes)
 
+-- a listing has its text whatever the file: a walk's refusal, and 20 for a file over 64 KiB, stand in the text
+unfoldable pub listRows : List ℕ → ℕ → Rows
+listRows file room = rows (9 ∷ []) (needed (length (listing file)) room)
+
 unfoldable pub dcWriteRows : ℕ → List ℤ → ℕ → Rows
 dcWriteRows plane values room =
     rows (20 ∷ 21 ∷ []) nowhere or rows (11 ∷ []) (First (length values) (inside Dc plane values)) or rows (9 ∷ []) (needed (length (dcBytes values)) room)
@@ -167,6 +172,9 @@ pub record DemandOne : Type 0 where
   pub boxes : (file : List ℕ) (kind instance : ℕ) (before after : List ℕ) (answer : Answer)
       → Meets 0 (boxOf file kind instance (length before)) before after answer
       → Answered 0 (boxRows file kind instance (length before)) before after answer
+  pub listings : (file before after : List ℕ) (answer : Answer)
+      → Meets 0 (listed file (length before)) before after answer
+      → Answered 0 (listRows file (length before)) before after answer
   pub dcRead : (plane blocks : ℕ) (values : List ℤ) (bytes : List ℕ) (before after : List ℤ) (answer : Answer)
       → Meets (pos 0) (readDc plane blocks values bytes (length before)) before after answer
       → Answered (pos 0) (dcReadRows plane blocks values bytes (length before)) before after answer

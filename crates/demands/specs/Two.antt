@@ -9,6 +9,7 @@ use lib.Dec.{leb, eqb}
 use lib.IntN.{ℤ, pos, _+ℤ_, _*ℤ_}
 use lib.ListN.{length, getD, take}
 use lib.Signed.{shrZ}
+use Rattle.listing_text.specs.Text.{listing, listed}
 use Rattle.laws.specs.Index.{sumTo, every}
 use Rattle.laws.specs.First.{firstFail}
 use Rattle.laws.specs.declared.Found.the-variants.{Nothing}
@@ -64,6 +65,11 @@ pub record AcRefined (plane blocks : ℕ) (codes : Table) (values : List ℤ) (b
   pub refined : acBlocks codes 0 none (cut blocks values) (start bytes) ≡ read ys left
   pub padded : onlyPadding left ≡ true
 
+-- the listing's text, given room
+pub record Listed (file : List ℕ) (room : ℕ) (ys : List ℕ) : Type 0 where
+  pub text : ys ≡ listing file
+  pub fits : length ys ≤ room
+
 -- "The writer takes level j values, j 1 to 4"
 pub record DcCoded (plane blocks : ℕ) (values : List ℤ) (room : ℕ) (ys : List ℕ) : Type 0 where
   pub counts : every (writable plane blocks) ≡ true
@@ -107,6 +113,8 @@ pub record Merged (s : Setting) (pixels : ℕ) (base residual : List ℤ) (table
 pub record DemandTwo : Type 0 where
   pub boxes : (file : List ℕ) (kind instance : ℕ) (before after : List ℕ) (answer : Answer)
       → Meets 0 (boxOf file kind instance (length before)) before after answer → Exactly (HandedOut file kind instance (length before)) after answer
+  pub listings : (file before after : List ℕ) (answer : Answer)
+      → Meets 0 (listed file (length before)) before after answer → Exactly (Listed file (length before)) after answer
   pub dcRead : (plane blocks : ℕ) (values : List ℤ) (bytes : List ℕ) (before after : List ℤ) (answer : Answer)
       → Meets (pos 0) (readDc plane blocks values bytes (length before)) before after answer
       → Exactly (DcRefined plane blocks values bytes (length before)) after answer
