@@ -1,16 +1,16 @@
 -- Laws of looking ahead: in a block from a position on, over blocks from one on. Assumes nothing.
 use mathlib.Core.Path.{_≡_, refl, sym, ap, _∙_}
 use mathlib.Core.Bool.{Bool}
-use mathlib.Core.List.{List, [], _∷_, map}
+use mathlib.Core.List.{List, [], _∷_}
 use mathlib.Core.Option.{Option, none, some}
-use Prim.Native.Nat.{ℕ, zero, suc, _+_, _-_, _*_, _≤_, _<_}
+use Prim.Native.Nat.{ℕ, suc, _+_, _-_, _*_, _≤_, _<_}
 use native.Mathlib.Numerals.{add-one}
 use native.Mathlib.Omega.{arith}
 use lib.IntN.{ℤ, pos}
 use lib.ListN.{length, getD, take, drop, drop-of-length-le}
 use lib.Seq.{drop-cons, drop-drop}
 use Rattle.planes.specs.AcRead.{cut}
-use Rattle.planes.specs.AcWrite.{Kind, keep, still, fresh, kindOf, ahead, oneMore, quiet, unlessNew}
+use Rattle.planes.specs.AcWrite.{Kind, kindOf, ahead, oneMore, quiet, unlessNew}
 use Rattle.ac_plan.specs.Plan.{kindsFrom, kindBlocks, kindIs, comingIs}
 use Rattle.ac_plan.specs.declared.Change.{Change}
 use Rattle.ac_plan.specs.declared.Change.the-variants.{Kept, Still, Fresh}

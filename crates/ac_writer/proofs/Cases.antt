@@ -1,7 +1,7 @@
 -- Writes of AC planes by computation over the definitions: a whiteboard reading turned round, and what it does not meet. Assumes nothing.
 use mathlib.Core.Path.{_≡_, refl}
 use mathlib.Core.List.{List, [], _∷_, _++_, map}
-use Prim.Native.Nat.{ℕ, _*_}
+use Prim.Native.Nat.{ℕ}
 use lib.IntN.{ℤ, pos, negsuc}
 use lib.ListN.{replicate}
 use Rattle.laws.specs.Index.{every}

@@ -1,15 +1,14 @@
 -- The class of a run's length, and the bits behind its code. Assumes nothing.
-use mathlib.Core.Path.{_≡_, refl, sym, ap, ap₂, _∙_}
+use mathlib.Core.Path.{_≡_, refl, ap, ap₂, _∙_}
 use mathlib.Core.Bool.{Bool, true, false, cond}
 use mathlib.Core.List.{List, _∷_}
 use Prim.Native.Nat.{ℕ, zero, suc, _+_, _-_, _*_, _/_, _%_, _^_, _≤_, _<_}
 use native.Mathlib.Nat.{pow-suc, add-mul-div-right}
-use native.Mathlib.Numerals.{add-one}
 use native.Mathlib.Omega.{arith}
 use lib.Dec.{eqb, ltb}
 use lib.Pow.{pow-pos}
 use borrow.Author.Tests.{lt-ltb, le-ltb, ltb-false}
-use Rattle.bits.specs.Digits.{odd, digits}
+use Rattle.bits.specs.Digits.{digits}
 use Rattle.planes.specs.AcWrite.{order, class}
 
 pub class-high : (most n : ℕ) → order most n ≤ most

@@ -1,9 +1,9 @@
 -- How many bits a position, a block and a plane take at most. Assumes nothing.
-use mathlib.Core.Path.{_≡_, refl, sym, ap, _∙_}
+use mathlib.Core.Path.{_≡_, ap}
 use mathlib.Core.Bool.{Bool, true, false, cond}
 use mathlib.Core.List.{List, [], _∷_, _++_, map}
 use mathlib.Core.Option.{Option, none, some}
-use Prim.Native.Nat.{ℕ, zero, suc, _+_, _-_, _*_, _^_, _≤_, _<_}
+use Prim.Native.Nat.{ℕ, zero, suc, _+_, _-_, _*_, _^_, _≤_}
 use native.Mathlib.Omega.{arith}
 use lib.Dec.{ltb}
 use lib.IntN.{ℤ}
@@ -17,7 +17,7 @@ use Rattle.codes.proofs.Laws.{good}
 use Rattle.codes.proofs.Trip.{digits-length}
 use Rattle.planes.specs.Task.{Task, walk, ended}
 use Rattle.planes.specs.AcRead.{cut}
-use Rattle.planes.specs.AcWrite.{Kind, keep, still, fresh, kindOf, Token, code, raw, emit, class, choose, tell, mark, after, writeBlock, writeBlocks, tokens, spelled}
+use Rattle.planes.specs.AcWrite.{Kind, keep, still, fresh, kindOf, code, raw, emit, class, choose, tell, mark, after, writeBlock, writeBlocks, tokens, spelled}
 use Rattle.ac_writer.proofs.Tokens.{spelled-append, spelled-raw}
 use Rattle.ac_writer.proofs.Classes.{class-high}
 

@@ -1,5 +1,5 @@
 -- The blocks of a plane one after another. Assumes nothing.
-use mathlib.Core.Path.{_≡_, refl, sym, ap, subst, _∙_}
+use mathlib.Core.Path.{_≡_, refl}
 use mathlib.Core.Bool.{true}
 use mathlib.Core.List.{List, [], _∷_, _++_}
 use mathlib.Core.Option.{Option, none}
@@ -8,11 +8,10 @@ use native.Mathlib.Omega.{arith}
 use lib.IntN.{ℤ}
 use lib.ListN.{length, take, drop, length-take, length-drop}
 use lib.Seq.{take-length}
-use Rattle.bits.specs.Code.{Sound}
 use Rattle.bits.proofs.Putting.{fresh-sound}
 use Rattle.codes.specs.Table.{Table, goodTable}
 use Rattle.planes.specs.Task.{Task}
-use Rattle.planes.specs.AcWrite.{Kind, Token, kindOf, writeBlock, writeBlocks, tokens}
+use Rattle.planes.specs.AcWrite.{Kind, writeBlock, writeBlocks, tokens}
 use Rattle.ac_tasks.specs.Code.{openOf}
 use Rattle.ac_plan.specs.Plan.{kindsFrom, kindBlocks}
 use Rattle.ac_tasks.specs.declared.Open.the-variants.{Nothing}

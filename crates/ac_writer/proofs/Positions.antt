@@ -3,14 +3,14 @@ use mathlib.Core.Path.{_≡_, refl, sym, ap, _∙_}
 use mathlib.Core.Bool.{Bool, true}
 use mathlib.Core.List.{List, [], _∷_, _++_, append-assoc}
 use mathlib.Core.Option.{Option}
-use Prim.Native.Nat.{ℕ, _+_, _*_, _^_, _≤_, _<_}
+use Prim.Native.Nat.{ℕ, _+_, _^_, _≤_, _<_}
 use native.Mathlib.Omega.{arith}
 use lib.IntN.{ℤ, pos}
 use lib.ListN.{length, getD, length-map}
 use Rattle.bits.specs.Code.{Sound}
 use Rattle.codes.specs.Table.{Table, goodTable}
 use Rattle.planes.specs.Task.{Task, over}
-use Rattle.planes.specs.AcWrite.{Kind, Token, kindOf, plan, emit, choose, tell, mark, after, writeBlock, spelled}
+use Rattle.planes.specs.AcWrite.{Kind, Token, kindOf, plan, emit, choose, tell, mark, after, writeBlock}
 use Rattle.ac_tasks.specs.Code.{taskOf, openOf}
 use Rattle.ac_tasks.specs.declared.Job.{Job}
 use Rattle.ac_tasks.specs.declared.Job.the-variants.{Leave, Set, Ended}

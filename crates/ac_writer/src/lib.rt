@@ -1,4 +1,4 @@
-// AC planes written (01, "The writer takes level j values, j 1 to 4").
+// AC planes written (01, "The writer takes level j values, j 1 to 4"): one pass that puts the bits and keeps the first code that the table lacks.
 ghost use mathlib.Core.Path.{_≡_};
 ghost use mathlib.Core.Bool.{true};
 ghost use mathlib.Core.List.{[], _∷_};
@@ -29,11 +29,13 @@ pub struct Pen {
     pub lack: Found,
 }
 
+// What goes from position to position: the pen, and the task that is open.
 pub struct State {
     pub pen: Pen,
     pub task: Open,
 }
 
+// The task at a position, told.
 pub struct Begun {
     pub pen: Pen,
     pub job: Job,

@@ -1,6 +1,6 @@
 -- `ac_plan::ahead_of` meets its contract: what is seen from here, behind the zeros passed, is what is seen from the start. Assumes nothing.
 use mathlib.Core.Path.{_≡_, ap, _∙_}
-use Prim.Native.Nat.{_≤_, _-_}
+use Prim.Native.Nat.{_-_}
 use lib.IntN.{pos}
 use lib.ListN.{length, getD}
 use mir.Syntax.{w32}

@@ -1,6 +1,5 @@
 -- `ac_plan::pass` meets its contract. Assumes nothing.
-use mathlib.Core.Path.{_≡_}
-use mathlib.Core.Option.{none, some}
+use mathlib.Core.Option.{none}
 use Rattle.ac_plan.proofs.Tasks.{pass-on}
 use borrow.Author.Needs.{needs}
 use Rattle.ac_plan.proofs.pass.Statement.{statement}

@@ -1,5 +1,5 @@
 -- `ac_writer::put_all` meets its contract: 19, then 9, then the bytes. Assumes nothing.
-use mathlib.Core.Path.{_≡_, sym, _∙_}
+use mathlib.Core.Path.{sym, _∙_}
 use Rattle.answers.proofs.Laws.{tried-refused, fitting-given, fitting-short}
 use Rattle.bits.proofs.Putting.{all-counted, all-stored}
 use Rattle.codes.specs.Table.{table}

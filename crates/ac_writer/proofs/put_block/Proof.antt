@@ -5,7 +5,6 @@ use lib.ListN.{length}
 use Rattle.codes.specs.Table.{table}
 use Rattle.ac_plan.specs.Plan.{kindBlocks}
 use Rattle.ac_writer.proofs.Positions.{Walking, walk-start, walk-ready, walk-turn, walk-end}
-use native.Mathlib.Omega.{arith}
 use borrow.Author.Needs.{needs}
 use Rattle.ac_writer.proofs.put_block.Statement.{statement}
 use Rattle.ac_writer.proofs.put_block.Tie as tie

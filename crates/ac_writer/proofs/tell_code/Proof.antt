@@ -1,5 +1,5 @@
 -- `ac_writer::tell_code` meets its contract. Assumes nothing.
-use mathlib.Core.Path.{_≡_, refl, sym, _∙_}
+use mathlib.Core.Path.{refl, sym, _∙_}
 use Rattle.bits.proofs.Putting.{puts-none}
 use Rattle.codes.specs.Table.{table}
 use Rattle.codes.proofs.Trip.{placed}
