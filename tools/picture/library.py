@@ -1,0 +1,69 @@
+"""The calls of libreader_c.a from Python, through a shared library made of it. Build it first with `rt staticlib reader_c`."""
+import ctypes, os, subprocess, tempfile
+
+ROOT = os.path.dirname(os.path.dirname(os.path.dirname(os.path.abspath(__file__))))
+ARCHIVE = os.path.join(ROOT, 'target', 'staticlib', 'libreader_c.a')
+
+
+def load():
+    if not os.path.exists(ARCHIVE):
+        raise SystemExit('run `rt staticlib reader_c` first')
+    shared = os.path.join(tempfile.mkdtemp(), 'libreader_c.so')
+    subprocess.run(['gcc', '-shared', '-o', shared, '-Wl,--whole-archive', ARCHIVE, '-Wl,--no-whole-archive'], check=True)
+    return ctypes.CDLL(shared)
+
+
+C = load()
+
+
+def lent(kind, values):
+    array = (kind * max(1, len(values)))(*values)
+    return array, ctypes.c_size_t(len(values))
+
+
+def call(name, *parts):
+    """Gives (number, place, destination). A part is a number with its type, or (type, values); the last is the destination."""
+    arguments, arrays = [], []
+    for part in parts:
+        if isinstance(part, tuple):
+            array, size = lent(*part)
+            arrays.append(array)
+            arguments += [array, size]
+        else:
+            arguments.append(part)
+    place = ctypes.c_uint64()
+    function = getattr(C, name)
+    function.restype = ctypes.c_uint32
+    number = function(*arguments, ctypes.byref(place))
+    return number, place.value, list(arrays[-1])
+
+
+U8, U16, I16, I32 = ctypes.c_uint8, ctypes.c_uint16, ctypes.c_int16, ctypes.c_int32
+u32, size = ctypes.c_uint32, ctypes.c_size_t
+
+
+def box(file, name, instance):
+    number, place, out = call('xt_box_bytes', (U8, file), u32(int.from_bytes(name, 'big')), ctypes.c_uint16(instance), (U8, bytes(len(file))))
+    return number, place, bytes(out[:place]) if number == 0 else b''
+
+
+def listing(file):
+    number, place, out = call('xt_list_packets', (U8, file), (U8, bytes(1 << 16)))
+    return bytes(out[:place]).decode()
+
+
+def read_dc(plane, blocks, data, values):
+    return call('xt_read_dc_plane', u32(plane), size(blocks), (U8, data), (I32, values), (I32, [0] * blocks))
+
+
+def read_ac(plane, blocks, counts, codes, data, values):
+    return call('xt_read_ac_plane', u32(plane), size(blocks), (U8, counts), (U8, codes), (U8, data), (I32, values), (I32, [0] * (63 * blocks)))
+
+
+def transform(refinement, blocks, values, quantisers):
+    return call('xt_inverse_transform', u32(refinement), size(blocks), (I32, values), (U16, quantisers), (I32, [0] * (64 * blocks)))
+
+
+def merge_grey(rb, rh, base, table):
+    curve = 1 if table else 0
+    return call('xt_merge', u32(rb), u32(rh), u32(0), u32(1), size(len(base)), u32(0), u32(curve), u32(0), u32(0), u32(0), (I32, base), (I32, []), (U16, table), (I16, []), (U16, [0] * len(base)))

@@ -1,0 +1,127 @@
+#!/usr/bin/env python3
+"""read.py PICTURE [OUT.pgm]: one grey JPEG XT picture read through: boxes, refinement planes, transform, merge with its TONE table; compared with
+the reference decoder (`jpeg` of Debian's libjpeg-tools) where that is there. The base coefficients are lent numbers to the reader: they stand in
+PICTURE.base, or come from libjpeg (tools/vectors/coefficients.c: gcc and libjpeg62-turbo-dev). Needs `rt staticlib reader_c` first."""
+import os, shutil, subprocess, sys, tempfile
+sys.path.insert(0, os.path.dirname(os.path.abspath(__file__)))
+from library import *
+
+TMP = tempfile.mkdtemp()
+
+
+def segments(jpeg):
+    at = 2
+    while jpeg[at + 1] != 0xD9:
+        marker, length = jpeg[at + 1], int.from_bytes(jpeg[at + 2:at + 4], 'big')
+        yield marker, jpeg[at + 4:at + 2 + length], at + 2 + length
+        if marker == 0xDA:
+            return
+        at += 2 + length
+
+
+def base_of(path, jpeg):
+    """Width, height, quantisers and level 0 values."""
+    for marker, body, _ in segments(jpeg):
+        if marker == 0xDB:
+            quantisers = list(body[1:65])
+        if marker in (0xC0, 0xC1, 0xC2):
+            height, width = int.from_bytes(body[1:3], 'big'), int.from_bytes(body[3:5], 'big')
+    if os.path.exists(path + '.base'):
+        text = open(path + '.base').read()
+    else:
+        tool = os.path.join(TMP, 'coefficients')
+        subprocess.run(['gcc', '-O1', '-o', tool, os.path.join(ROOT, 'tools', 'vectors', 'coefficients.c'), '-ljpeg'], check=True)
+        text = subprocess.run([tool, path], capture_output=True, check=True).stdout.decode()
+    lines = text.split('\n')[1:]
+    return width, height, quantisers, [list(map(int, line.split())) for line in lines if line]
+
+
+def scan_of(fine):
+    """A FINE box is a refinement scan: an optional code table, the scan's head, its data."""
+    table = (b'', b'')
+    for marker, body, end in segments(b'\xff\xd8' + fine + b'\xff\xd9'):
+        if marker == 0xC4:
+            n = sum(body[1:17])
+            table = (body[1:17], body[17:17 + n])
+        if marker == 0xDA:
+            return body[-3] == 0, body[-1] & 15, table, fine[end - 2:]
+
+
+def refuse(what, answer):
+    raise SystemExit(f'{what}: answer {answer[0]} {answer[1]}')
+
+
+def read(path, say=print):
+    file = open(path, 'rb').read()
+    say(listing(file).rstrip())
+    fines, instance = [], 0
+    while True:
+        answer = box(file, b'FINE', instance)
+        if answer[0] == 4:
+            break
+        if answer[0]:
+            refuse(f'FINE {instance}', answer)
+        fines.append(answer[2])
+        instance += 1
+    planes = len(fines) // 2
+    width, height, quantisers, blocks = base_of(path, file)
+    n = len(blocks)
+    dc, ac = [b[0] for b in blocks], [v for b in blocks for v in b[1:]]
+    for fine in fines:
+        is_dc, low, table, data = scan_of(fine)
+        plane = planes - low
+        answer = read_dc(plane, n, data, dc) if is_dc else read_ac(plane, n, *table, data, ac)
+        if answer[0]:
+            refuse(f'plane {plane}', answer)
+        if is_dc:
+            dc = answer[2]
+        else:
+            ac = answer[2]
+        say(f'plane {plane} {"DC" if is_dc else "AC"}: {len(data)} bytes, {answer[1]} values')
+    values = [v for b in range(n) for v in [dc[b]] + ac[63 * b:63 * b + 63]]
+    answer = transform(planes, n, values, quantisers)
+    if answer[0]:
+        refuse('transform', answer)
+    across, samples = (width + 7) // 8, answer[2]
+    base = [samples[64 * ((y // 8) * across + x // 8) + 8 * (y % 8) + x % 8] for y in range(height) for x in range(width)]
+    number, _, tone = box(file, b'TONE', 1)
+    table = [int.from_bytes(tone[i:i + 2], 'big') for i in range(1, len(tone) - 1, 2)] if number == 0 else []
+    answer = merge_grey(planes, planes, base, table)
+    if answer[0]:
+        refuse('merge', answer)
+    say(f'merged: {answer[1]} samples of {8 + planes} bits, from {min(answer[2])} to {max(answer[2])}')
+    return width, height, planes, answer[2]
+
+
+def reference(path):
+    """What the reference decoder shows, or nothing where it is not there or says no."""
+    if not shutil.which('jpeg'):
+        return None
+    out = os.path.join(TMP, 'reference.pgm')
+    if os.path.exists(out):
+        os.remove(out)
+    said = subprocess.run(['jpeg', path, out], capture_output=True)
+    if b'failed' in said.stdout + said.stderr or not os.path.exists(out) or os.path.getsize(out) == 0:
+        return None
+    data = open(out, 'rb').read()
+    head = data.split(b'\n', 3)
+    return [int.from_bytes(head[3][i:i + 2], 'big') for i in range(0, len(head[3]), 2)]
+
+
+def main():
+    width, height, planes, samples = read(sys.argv[1])
+    if len(sys.argv) > 2:
+        with open(sys.argv[2], 'wb') as f:
+            f.write(b'P5\n%d %d\n%d\n' % (width, height, (1 << 8 + planes) - 1) + b''.join(s.to_bytes(2, 'big') for s in samples))
+    theirs = reference(sys.argv[1])
+    if theirs is None:
+        print('the reference decoder is not there (apt-get install libjpeg-tools)')
+        return
+    differ = {}
+    for a, b in zip(samples, theirs):
+        differ[a - b] = differ.get(a - b, 0) + 1
+    print('ours less the reference decoder\'s, and how many samples: ' + ', '.join(f'{d}: {differ[d]}' for d in sorted(differ)))
+
+
+if __name__ == '__main__':
+    main()
