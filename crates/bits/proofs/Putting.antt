@@ -61,9 +61,6 @@ bin-small false = omega arith
 pub joined : (p : Putter) → Sound p → (b : Bool) → bitOr (bitAnd (p .held) 127 * 2 % 256) (bin b) ≡ 2 * p .held + bin b
 joined p s b = rw (moved-up (p .held)) (or-shifted (p .held % 128) 1 (bin b) (bin-small b) ∙ omega (arith, small-held p s))
 
-pub joined-byte : (p : Putter) → Sound p → (b : Bool) → 2 * p .held + bin b < 256
-joined-byte p s b = omega (arith, small-held p s, bin-small b)
-
 -- ---- a bit
 
 module _ {before : List ℕ} {p : Putter} (s : Sound p) (b : Bool) where

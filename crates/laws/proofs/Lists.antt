@@ -32,16 +32,6 @@ module _ {A : Type 0} where
   unfolding tab
   tab-more n f = rw add-one
 
-  pub tab-ext : (n : ℕ) (f g : ℕ → A) → ((k : ℕ) → k < n → f k ≡ g k) → tab n f ≡ tab n g
-  unfolding tab
-  tab-ext zero f g h = refl
-  tab-ext (suc n) f g h = let e = tab-ext n f g (λ k l. h k (omega arith)) in let d = h n (le-refl (suc n)) in cc
-
-  pub tab-const : (n : ℕ) (a : A) → tab n (λ k. a) ≡ replicate n a
-  unfolding tab
-  tab-const zero a = refl
-  tab-const (suc n) a = ap (λ (l : List A). l ++ (a ∷ [])) (tab-const n a) ∙ replicate-append-replicate n 1 a ∙ ap (λ (k : ℕ). replicate k a) (add-one n)
-
   -- ---- joined lists of one length
 
   pub join-more : (n : ℕ) (f : ℕ → List A) → joinTo (n + 1) f ≡ joinTo n f ++ f n

@@ -4,9 +4,9 @@ use Prim.Native.Nat.{ℕ, zero, suc, _+_, _*_, _<_, _≤_}
 use native.Mathlib.Nat.{le-refl, le-trans, suc-mul}
 use native.Mathlib.Numerals.{add-one}
 use native.Mathlib.Omega.{arith}
-use lib.IntN.{ℤ, pos, natAbs, _+ℤ_, _*ℤ_, *ℤ-zero}
+use lib.IntN.{ℤ, pos, natAbs, _+ℤ_}
 use Rattle.laws.specs.Index.{sumTo}
-use Rattle.laws.proofs.Integers.{abs-sum, *ℤ-dist, up, dn, sum, eqZ}
+use Rattle.laws.proofs.Integers.{abs-sum}
 
 pub sum-none : (f : ℕ → ℤ) → sumTo 0 f ≡ pos 0
 unfolding sumTo
@@ -31,32 +31,6 @@ pub sum-ext : (n : ℕ) (f g : ℕ → ℤ) → ((k : ℕ) → k < n → f k ≡
 unfolding sumTo
 sum-ext zero f g h = refl
 sum-ext (suc n) f g h = let e = sum-ext n f g (λ k l. h k (omega arith)) in let d = h n (le-refl (suc n)) in cc
-
--- a factor goes in and out
-pub sum-times : (a : ℤ) (n : ℕ) (f : ℕ → ℤ) → sumTo n (λ k. a *ℤ f k) ≡ a *ℤ sumTo n f
-unfolding sumTo
-sum-times a zero f = sym (*ℤ-zero a)
-sum-times a (suc n) f = ap (λ (z : ℤ). z +ℤ a *ℤ f n) (sum-times a n f) ∙ sym (*ℤ-dist a (sumTo n f) (f n))
-
-pub sum-plus : (n : ℕ) (f g : ℕ → ℤ) → sumTo n (λ k. f k +ℤ g k) ≡ sumTo n f +ℤ sumTo n g
-unfolding sumTo
-sum-plus zero f g = refl
-sum-plus (suc n) f g =
-    ap (λ (z : ℤ). z +ℤ (f n +ℤ g n)) (sum-plus n f g)
-    ∙ eqZ _ _ (omega (arith, sum (sumTo n f +ℤ sumTo n g) (f n +ℤ g n), sum (sumTo n f) (sumTo n g), sum (f n) (g n), sum (sumTo n f +ℤ f n) (sumTo n g +ℤ g n), sum (sumTo n f) (f n), sum (sumTo n g) (g n)))
-
-sum-zero : (n : ℕ) → sumTo n (λ k. pos 0) ≡ pos 0
-unfolding sumTo
-sum-zero zero = refl
-sum-zero (suc n) = ap (λ (z : ℤ). z +ℤ pos 0) (sum-zero n)
-
--- the exchange of a double sum, for any two lengths
-pub sum-swap : (m n : ℕ) (f : ℕ → ℕ → ℤ) → sumTo m (λ v. sumTo n (λ u. f v u)) ≡ sumTo n (λ u. sumTo m (λ v. f v u))
-unfolding sumTo
-sum-swap zero n f = sym (sum-zero n)
-sum-swap (suc m) n f =
-    ap (λ (z : ℤ). z +ℤ sumTo n (f m)) (sum-swap m n f)
-    ∙ sym (sum-plus n (λ u. sumTo m (λ v. f v u)) (f m))
 
 -- a turn of a loop that adds up
 pub sum-turn : (f : ℕ → ℤ) (n : ℕ) {a r : ℤ} → a ≡ sumTo n f → r ≡ f n → a +ℤ r ≡ sumTo (n + 1) f
