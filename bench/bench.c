@@ -17,7 +17,7 @@ static uint8_t box1[FILES], box2[FILES];
 static int32_t full[64 * BLOCKS], old[64 * BLOCKS], out1[3 * PIXELS], out2[3 * PIXELS], base[3 * PIXELS], residual[3 * PIXELS];
 static uint16_t quantisers[64], merged1[3 * PIXELS], merged2[3 * PIXELS];
 static uint64_t place1, place2;
-static size_t coded, file_len;
+static size_t file_len;
 static int bad;
 
 typedef uint32_t (*run)(size_t size, uint64_t *place);
@@ -92,6 +92,9 @@ static void made_for(size_t size) { if (made != size) { picture(size); made = si
 static uint32_t bx(size_t n, uint64_t *p) { made_for(n); return xt_box_bytes(file, file_len, 0x46494E45, 1, box1, sizeof box1, p); }
 static uint32_t bx2(size_t n, uint64_t *p) { made_for(n); return plain_box_bytes(file, file_len, 0x46494E45, 1, box2, sizeof box2, p); }
 
+static uint32_t ls(size_t n, uint64_t *p) { made_for(n); return xt_list_packets(file, file_len, box1, sizeof box1, p); }
+static uint32_t ls2(size_t n, uint64_t *p) { made_for(n); return plain_list_packets(file, file_len, box2, sizeof box2, p); }
+
 int main(void)
 {
     counts[5] = 32;
@@ -123,6 +126,8 @@ int main(void)
     compare("xt_box_bytes, packets of 20 bytes in order", "bytes", 1000000, 1000000, bx, bx2, box1, box2, 1000000);
     backward = 1; made = 0;
     compare("xt_box_bytes, the same backward", "bytes", 1000000, 1000000, bx, bx2, box1, box2, 1000000);
+    each = 20; backward = 0; made = 0;
+    compare("xt_list_packets, packets of 20 bytes", "bytes", 30000, 30000, ls, ls2, box1, box2, 20000);
     printf("%d differ\n", bad);
     return bad != 0;
 }

@@ -1,4 +1,5 @@
 /* The same rules in plain C, for comparison of speed: written as one would write them, with the same checks of the input. */
+#include <stdio.h>
 #include <stdlib.h>
 #include <string.h>
 #include "plain.h"
@@ -381,6 +382,54 @@ uint32_t plain_box_bytes(const uint8_t *file, size_t len, uint32_t type, uint16_
         to += packets[i].len;
     }
     *place = total;
+    return 0;
+}
+
+/* ---- the listing */
+
+static size_t text(uint8_t *out, size_t room, size_t at, const char *s)
+{
+    for (; *s; s++, at++)
+        if (at < room) out[at] = (uint8_t)*s;
+    return at;
+}
+
+uint32_t plain_list_packets(const uint8_t *file, size_t len, uint8_t *out, size_t room, uint64_t *place)
+{
+    char line[80];
+    size_t to = text(out, room, 0, "instance number bytes type\n"), begin = to, at = 2;
+    uint32_t number = len > 65536 ? 20 : 0;
+    if (!number && (len < 2 || file[0] != 0xFF || file[1] != 0xD8)) number = 1, at = 0;
+    while (!number) {
+        size_t m = at, size;
+        while (m < len && file[m] == 0xFF) m++;
+        number = 2;
+        if (m == at || m >= len) break;
+        if (file[m] == 0xDA) {
+            number = 0;
+            at = 0;
+            break;
+        }
+        if (file[m] <= 1 || (file[m] >= 0xD0 && file[m] <= 0xD9) || m + 3 > len) break;
+        size = be(file + m + 1, 2);
+        if (size < 2 || m + 1 + size > len) break;
+        number = 0;
+        if (file[m] == 0xEB && size >= 4 && file[m + 3] == 0x4A && file[m + 4] == 0x50) {
+            if (size < 18 || be(file + m + 11, 4) < 8) {
+                number = 3;
+                break;
+            }
+            snprintf(line, sizeof line, "%u %u %zu %08X\n", be(file + m + 5, 2), be(file + m + 7, 4), size - 18, be(file + m + 15, 4));
+            to = text(out, room, to, line);
+        }
+        at = m + 1 + size;
+    }
+    if (number == 20) at = 0;
+    if (number) to = begin;
+    snprintf(line, sizeof line, "answer %u %zu\n", number, number ? at : 0);
+    to = text(out, room, to, line);
+    if (to > room) return refused(9, to, out, room, place);
+    *place = to;
     return 0;
 }
 

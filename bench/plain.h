@@ -4,6 +4,7 @@
 #include <stddef.h>
 #include <stdint.h>
 uint32_t plain_box_bytes(const uint8_t *, size_t, uint32_t, uint16_t, uint8_t *, size_t, uint64_t *);
+uint32_t plain_list_packets(const uint8_t *, size_t, uint8_t *, size_t, uint64_t *);
 uint32_t plain_read_dc(uint32_t, size_t, const uint8_t *, size_t, const int32_t *, size_t, int32_t *, size_t, uint64_t *);
 uint32_t plain_write_dc(uint32_t, size_t, const int32_t *, size_t, uint8_t *, size_t, uint64_t *);
 uint32_t plain_read_ac(uint32_t, size_t, const uint8_t *, size_t, const uint8_t *, size_t, const uint8_t *, size_t, const int32_t *, size_t, int32_t *, size_t, uint64_t *);

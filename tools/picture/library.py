@@ -64,6 +64,6 @@ def transform(refinement, blocks, values, quantisers):
     return call('xt_inverse_transform', u32(refinement), size(blocks), (I32, values), (U16, quantisers), (I32, [0] * (64 * blocks)))
 
 
-def merge_grey(rb, rh, base, table):
-    curve = 1 if table else 0
-    return call('xt_merge', u32(rb), u32(rh), u32(0), u32(1), size(len(base)), u32(0), u32(curve), u32(0), u32(0), u32(0), (I32, base), (I32, []), (U16, table), (I16, []), (U16, [0] * len(base)))
+def merge_grey(rb, rh, rr, base, table, residual):
+    curve, added = (1 if table else 0), (1 if residual else 0)
+    return call('xt_merge', u32(rb), u32(rh), u32(rr), u32(1), size(len(base)), u32(0), u32(curve), u32(0), u32(added), u32(0), (I32, base), (I32, residual), (U16, table), (I16, []), (U16, [0] * len(base)))

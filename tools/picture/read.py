@@ -20,7 +20,7 @@ def segments(jpeg):
 
 
 def base_of(path, jpeg):
-    """Width, height, quantisers and level 0 values."""
+    """Width, height, quantisers and level 0 values of a codestream; `path` names its file."""
     for marker, body, _ in segments(jpeg):
         if marker == 0xDB:
             quantisers = list(body[1:65])
@@ -32,8 +32,7 @@ def base_of(path, jpeg):
         tool = os.path.join(TMP, 'coefficients')
         subprocess.run(['gcc', '-O1', '-o', tool, os.path.join(ROOT, 'tools', 'vectors', 'coefficients.c'), '-ljpeg'], check=True)
         text = subprocess.run([tool, path], capture_output=True, check=True).stdout.decode()
-    lines = text.split('\n')[1:]
-    return width, height, quantisers, [list(map(int, line.split())) for line in lines if line]
+    return width, height, quantisers, [list(map(int, line.split())) for line in text.split('\n')[1:] if line]
 
 
 def scan_of(fine):
@@ -51,46 +50,60 @@ def refuse(what, answer):
     raise SystemExit(f'{what}: answer {answer[0]} {answer[1]}')
 
 
-def read(path, say=print):
-    file = open(path, 'rb').read()
-    say(listing(file).rstrip())
-    fines, instance = [], 0
+def all_boxes(file, kind):
+    """The boxes of a type, instance by instance from 0."""
+    found = []
     while True:
-        answer = box(file, b'FINE', instance)
+        answer = box(file, kind, len(found))
         if answer[0] == 4:
-            break
+            return found
         if answer[0]:
-            refuse(f'FINE {instance}', answer)
-        fines.append(answer[2])
-        instance += 1
-    planes = len(fines) // 2
-    width, height, quantisers, blocks = base_of(path, file)
-    n = len(blocks)
+            refuse(f'{kind.decode()} {len(found)}', answer)
+        found.append(answer[2])
+
+
+def samples_of(name, path, codestream, fines, say):
+    """Samples row by row of a codestream and its refinement boxes, and how many planes there are."""
+    width, height, quantisers, blocks = base_of(path, codestream)
+    planes, n = len(fines) // 2, len(blocks)
     dc, ac = [b[0] for b in blocks], [v for b in blocks for v in b[1:]]
     for fine in fines:
         is_dc, low, table, data = scan_of(fine)
         plane = planes - low
         answer = read_dc(plane, n, data, dc) if is_dc else read_ac(plane, n, *table, data, ac)
         if answer[0]:
-            refuse(f'plane {plane}', answer)
+            refuse(f'{name}, plane {plane}', answer)
         if is_dc:
             dc = answer[2]
         else:
             ac = answer[2]
-        say(f'plane {plane} {"DC" if is_dc else "AC"}: {len(data)} bytes, {answer[1]} values')
-    values = [v for b in range(n) for v in [dc[b]] + ac[63 * b:63 * b + 63]]
-    answer = transform(planes, n, values, quantisers)
+        say(f'{name}, plane {plane} {"DC" if is_dc else "AC"}: {len(data)} bytes, {answer[1]} values')
+    answer = transform(planes, n, [v for b in range(n) for v in [dc[b]] + ac[63 * b:63 * b + 63]], quantisers)
     if answer[0]:
-        refuse('transform', answer)
-    across, samples = (width + 7) // 8, answer[2]
-    base = [samples[64 * ((y // 8) * across + x // 8) + 8 * (y % 8) + x % 8] for y in range(height) for x in range(width)]
+        refuse(f'{name}, transform', answer)
+    across = (width + 7) // 8
+    return width, height, planes, [answer[2][64 * ((y // 8) * across + x // 8) + 8 * (y % 8) + x % 8] for y in range(height) for x in range(width)]
+
+
+def read(path, say=print):
+    file = open(path, 'rb').read()
+    say(listing(file).rstrip())
+    width, height, planes, base = samples_of('base', path, file, all_boxes(file, b'FINE'), say)
     number, _, tone = box(file, b'TONE', 1)
     table = [int.from_bytes(tone[i:i + 2], 'big') for i in range(1, len(tone) - 1, 2)] if number == 0 else []
-    answer = merge_grey(planes, planes, base, table)
+    number, _, codestream = box(file, b'RESI', 1)
+    residual, rr = [], 0
+    if number == 0:
+        inner = os.path.join(TMP, 'residual.jpg')
+        with open(inner, 'wb') as f:
+            f.write(codestream)
+        _, _, rr, residual = samples_of('residual', inner, codestream, all_boxes(file, b'RFIN'), say)
+    bits = max(table).bit_length() if table else 8 + planes
+    answer = merge_grey(bits - 8, planes, rr, base, table, residual)
     if answer[0]:
         refuse('merge', answer)
-    say(f'merged: {answer[1]} samples of {8 + planes} bits, from {min(answer[2])} to {max(answer[2])}')
-    return width, height, planes, answer[2]
+    say(f'merged: {answer[1]} samples of {bits} bits, from {min(answer[2])} to {max(answer[2])}')
+    return width, height, bits - 8, answer[2]
 
 
 def reference(path):
@@ -117,10 +130,9 @@ def main():
     if theirs is None:
         print('the reference decoder is not there (apt-get install libjpeg-tools)')
         return
-    differ = {}
-    for a, b in zip(samples, theirs):
-        differ[a - b] = differ.get(a - b, 0) + 1
-    print('ours less the reference decoder\'s, and how many samples: ' + ', '.join(f'{d}: {differ[d]}' for d in sorted(differ)))
+    far = [abs(a - b) for a, b in zip(samples, theirs)]
+    classes = (('the same', 0, 0), ('1 away', 1, 1), ('2 to 8 away', 2, 8), ('more', 9, 1 << 16))
+    print('beside the reference decoder: ' + ', '.join(f'{sum(low <= d <= high for d in far)} {name}' for name, low, high in classes) + f'; at most {max(far)}')
 
 
 if __name__ == '__main__':

@@ -152,28 +152,30 @@ def boxes(jpeg, kind):
         at += 2 + size
 
 
-def from_reference(width, height, planes, noise, seed):
-    """FINE boxes of the ISO reference software: each a refinement scan of the base image."""
+def refined(groups, blocks, fines, planes):
+    """Each box is a refinement scan: read over what the one before gave, and written again to the very bytes."""
+    dc, ac = [b[0] for b in blocks], [v for b in blocks for v in b[1:]]
+    for fine in fines:
+        start, data, end, first, high, low, table = scans(b'\xff\xd8' + fine + b'\xff\xd9')[0]
+        plane, bytes_ = planes - low, (b'\xff\xd8' + fine)[data:end]
+        if first == 0:
+            dc = read_dc(plane, len(blocks), bytes_, dc, len(blocks))[2]
+            trip(groups[0], plane, len(blocks), dc, bytes_)
+        else:
+            ac = read_ac(plane, len(blocks), *table, bytes_, ac, 63 * len(blocks))[2]
+            trip(groups[1], plane, len(blocks), ac, bytes_, table)
+
+
+def from_reference(width, height, planes, noise, seed, residual):
+    """FINE boxes of the ISO reference software, and RFIN boxes where there is a residual."""
     picture = grey('r.pgm', width, height, 8 + planes, wavy(8 + planes, noise, seed))
     out = os.path.join(TMP, 'r.jpg')
-    subprocess.run(['jpeg', '-q', '90', '-R', str(planes), '-h', picture, out], check=True, capture_output=True)
+    more = ['-Q', '85', '-r', '-rR', str(planes)] if residual else []
+    subprocess.run(['jpeg', '-q', '90' if not residual else '80', '-R', str(planes), '-h'] + more + [picture, out], check=True, capture_output=True)
     jpeg = open(out, 'rb').read()
-    base = coefficients(jpeg)
-    blocks = len(base)
-    dc, ac = [b[0] for b in base], [v for b in base for v in b[1:]]
-    for box in boxes(jpeg, b'FINE'):
-        start, data, end, first, high, low, table = scans(b'\xff\xd8' + box + b'\xff\xd9')[0]
-        plane, bytes_ = planes - low, (b'\xff\xd8' + box)[data:end]
-        if first == 0:
-            answer = read_dc(plane, blocks, bytes_, dc, blocks)
-            assert answer[0] == 0, answer
-            dc = answer[2]
-            trip(4, plane, blocks, dc, bytes_)
-        else:
-            answer = read_ac(plane, blocks, *table, bytes_, ac, 63 * blocks)
-            assert answer[0] == 0, answer
-            ac = answer[2]
-            trip(5, plane, blocks, ac, bytes_, table)
+    refined((4, 5), coefficients(jpeg), boxes(jpeg, b'FINE'), planes)
+    if residual:
+        refined((19, 20), coefficients(boxes(jpeg, b'RESI')[0]), boxes(jpeg, b'RFIN'), planes)
 
 
 ALL = bytes(16 * r for r in range(16)) + bytes(16 * r + 1 for r in range(16))
@@ -292,7 +294,8 @@ def main():
                                               (256, 256, 2, 60, wavy(8, 1, 5)), (96, 96, 1, 97, wavy(8, 30, 6)), (136, 136, 2, 90, stripes)):
         different += from_libjpeg(width, height, planes, quality, f)
     for planes in range(1, 5):
-        from_reference(40, 32, planes, 8, planes)
+        from_reference(40, 32, planes, 8, planes, False)
+        from_reference(40, 32, planes, 8, planes, True)
     counts_and_runs(rnd)
     refusals(rnd)
     with open(sys.argv[1], 'wb') as f:
