@@ -1,7 +1,7 @@
 -- What `takeBit` and `onlyPadding` give at a cursor, case by case, in the terms that the code's tests leave. Assumes nothing.
 use mathlib.Core.Path.{_≡_, refl, sym, ap, _∙_}
 use mathlib.Core.List.{List, [], _∷_}
-use mathlib.Core.Bool.{Bool, true, false, cond}
+use mathlib.Core.Bool.{Bool, true, false}
 use Prim.Native.Nat.{ℕ, zero, suc, _+_, _-_, _*_, _/_, _%_, _≤_, _<_}
 use native.Mathlib.Numerals.{add-one, sub-one}
 use native.Mathlib.Omega.{arith}
@@ -13,7 +13,7 @@ use borrow.Author.Tests.{eq-eqb, ne-eqb}
 use Rattle.laws.specs.Index.{every}
 use Rattle.laws.proofs.Lists.{each}
 use Rattle.bits.specs.Digits.{digits}
-use Rattle.bits.specs.Source.{Source, source, Out, got, stopped, stop, takeBit, takeFrom, nextByte, afterFF, opened, none, onlyPadding}
+use Rattle.bits.specs.Source.{stopped, stop, takeBit, takeFrom, nextByte, afterFF, opened, none, onlyPadding}
 use Rattle.bits.specs.Code.{highs, topOf, takenOf, sourceOf}
 use Rattle.bits.specs.declared.Cursor.{Cursor}
 

@@ -2,16 +2,16 @@
 use mathlib.Core.Path.{_≡_, refl, sym, ap, ap₂, _∙_, subst}
 use mathlib.Core.List.{List, [], _∷_, _++_, append-nil}
 use mathlib.Core.Bool.{Bool, true, false, cond}
-use Prim.Native.Nat.{ℕ, zero, suc, _+_, _*_, _/_, _%_, _^_, _≤_, _<_}
+use Prim.Native.Nat.{ℕ, zero, suc, _+_, _*_, _/_, _%_, _^_}
 use native.Mathlib.Omega.{arith}
 use native.Mathlib.Nat.{pow-succ', div-div-eq-div-mul}
 use lib.Dec.{eqb}
-use lib.ListN.{length, replicate, length-append}
+use lib.ListN.{length, replicate}
 use lib.Seq.{append-snoc}
 use borrow.Author.Tests.{eqb-true, ne-eqb, eq-eqb}
 use Rattle.laws.specs.Index.{every}
 use Rattle.bits.specs.Digits.{bin, odd, digits}
-use Rattle.bits.specs.Source.{Source, source, Out, got, takeBit, takeFrom, nextByte, afterFF, opened, onlyPadding}
+use Rattle.bits.specs.Source.{Source, source, takeBit, takeFrom, nextByte, afterFF, opened, onlyPadding}
 use Rattle.bits.specs.Pack.{stuffed, padded, packed, bytesOf}
 use Rattle.bits.specs.Gives.{Gives, Says}
 

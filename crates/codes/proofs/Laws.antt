@@ -1,17 +1,14 @@
 -- The laws of a table's tests, in the terms that the code leaves. Assumes nothing.
-use mathlib.Core.Path.{_≡_, refl, sym, ap, subst, _∙_}
-use mathlib.Core.List.{List, [], _∷_}
-use mathlib.Core.Bool.{Bool, true, false}
-use Prim.Native.Nat.{ℕ, zero, suc, _+_, _-_, _*_, _/_, _^_, _≤_, _<_}
+use mathlib.Core.Path.{_≡_, ap}
+use mathlib.Core.List.{List}
+use mathlib.Core.Bool.{true, false}
+use Prim.Native.Nat.{ℕ, suc, _+_, _-_, _*_, _/_, _^_, _≤_, _<_}
 use native.Mathlib.Nat.{le-of-suc-le-suc, mul-le-mul, pow-suc}
 use native.Mathlib.Numerals.{add-one}
 use native.Mathlib.Omega.{arith}
-use lib.Dec.{leb, eqb}
-use lib.Pow.{pow-mono}
 use lib.ListN.{length, getD, drop, drop-of-length-le, length-drop}
 use lib.Seq.{drop-cons}
 use borrow.Author.Tests.{leb-true, eqb-true, ne-eqb, eq-eqb}
-use Rattle.laws.specs.Index.{every}
 use Rattle.laws.proofs.Lists.{every-first, every-rest}
 use Rattle.codes.specs.Table.{Table, total, kraft, holds, distinct, goodTable}
 

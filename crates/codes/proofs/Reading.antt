@@ -1,22 +1,21 @@
 -- One turn of the loop that reads a code: what is left to read gives what the whole gives. Assumes nothing.
-use mathlib.Core.Path.{_≡_, refl, sym, ap, _∙_}
-use mathlib.Core.List.{List, [], _∷_}
+use mathlib.Core.Path.{_≡_, refl}
+use mathlib.Core.List.{_∷_}
 use mathlib.Core.Bool.{Bool, true, false}
-use Prim.Native.Nat.{ℕ, zero, suc, _+_, _-_, _*_, _^_, _≤_, _<_}
+use Prim.Native.Nat.{ℕ, _+_, _-_, _*_, _^_, _≤_, _<_}
 use native.Mathlib.Nat.{pow-suc}
 use native.Mathlib.Numerals.{add-one}
 use native.Mathlib.Omega.{arith}
-use lib.Dec.{ltb}
 use lib.Pow.{pow-mono}
 use lib.ListN.{length, getD, drop, drop-of-length-le}
 use lib.Seq.{drop-cons, drop-drop, getD-drop}
 use borrow.Author.Tests.{lt-ltb, le-ltb}
 use Rattle.bits.specs.Digits.{bin}
-use Rattle.bits.specs.Source.{Source, Out, got, stopped, stop, takeBit}
+use Rattle.bits.specs.Source.{Source, got, stopped, stop, takeBit}
 use Rattle.bits.specs.declared.Stop.{Stop}
 use Rattle.codes.specs.Table.{Table, total, goodTable}
 use Rattle.codes.specs.Read.{codeFrom, takeCode}
-use Rattle.codes.proofs.Laws.{good, total-on, total-end}
+use Rattle.codes.proofs.Laws.{good, total-on}
 
 pub bin-small : (b : Bool) → bin b < 2
 bin-small true = omega arith

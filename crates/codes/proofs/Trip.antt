@@ -9,14 +9,13 @@ use native.Mathlib.Nat.{pow-suc, div-div-eq-div-mul, mul-assoc, mul-comm, add-mu
 use lib.Pow.{pow-pos, pow-mono}
 use lib.Bits.{bitAnd, and-mask}
 use lib.Dec.{eqb, ltb}
-use lib.ListN.{length, getD, drop, drop-of-length-le, length-drop}
+use lib.ListN.{length, getD, drop}
 use lib.Seq.{getD-drop, drop-cons}
 use borrow.Author.Tests.{ltb-true, ltb-false, lt-ltb, le-ltb, eqb-true, eqb-false, not-false}
-use Rattle.laws.specs.First.{firstFail}
 use Rattle.laws.specs.declared.Found.the-variants.{At}
 use Rattle.laws.proofs.First.{first-at}
 use Rattle.bits.specs.Digits.{bin, odd, digits}
-use Rattle.bits.specs.Source.{Source, source, got, takeBit}
+use Rattle.bits.specs.Source.{Source, source, got}
 use Rattle.bits.specs.Gives.{Gives}
 use Rattle.bits.proofs.Trip.{in-hand, gives-split}
 use Rattle.bits.specs.declared.Putter.{Putter}

@@ -4,21 +4,6 @@ use borrow.Author.Needs.{needs}
 use Rattle.ac_plan.proofs.after.Statement.{statement}
 use Rattle.ac_plan.proofs.after.Tie as tie
 
-enum-told : tie.Need-enum-told
-enum-told c = search needs
-
-enum-told-2 : tie.Need-enum-told-2
-enum-told-2 c = search needs
-
-pass-requires : tie.Need-pass-requires
-pass-requires c κs = search needs
-
-enum-told-3 : tie.Need-enum-told-3
-enum-told-3 c = search needs
-
-pass-requires-2 : tie.Need-pass-requires-2
-pass-requires-2 c κs = search needs
-
 returns : tie.Need-returns
 unfolding kindIs
 returns c = rw (c .enum-told .given .1)
@@ -35,11 +20,11 @@ pub after-spec : {M : Type 1} → statement M
 after-spec =
     tie.close
     (tie.spec
-    enum-told
-    enum-told-2
-    pass-requires
-    enum-told-3
-    pass-requires-2
+    (λ c. search needs)
+    (λ c. search needs)
+    (λ c κs. search needs)
+    (λ c. search needs)
+    (λ c κs. search needs)
     returns
     returns-2
     returns-3)

@@ -21,18 +21,6 @@ abbrev μ-loop : tie.MeasureT-loop
 loop-holds : tie.Need-loop-holds Inv-loop μ-loop
 loop-holds c = look-start _ _
 
-mul-kind-of : tie.Need-mul-kind-of Inv-loop μ-loop
-mul-kind-of c = search needs
-
-shared-slice-copy-out-kind-of : tie.Need-shared-slice-copy-out-kind-of Inv-loop μ-loop
-shared-slice-copy-out-kind-of c = search needs
-
-kind-of-requires : tie.Need-kind-of-requires Inv-loop μ-loop
-kind-of-requires c κs = search needs
-
-enum-known-change : tie.Need-enum-known-change Inv-loop μ-loop
-enum-known-change c = search needs
-
 -- the kind of the value here
 seen : (c : tie.After-kind-of Inv-loop μ-loop)
     → kindIs (c .kind-of .result) ≡ kindOf (getD (c .before .before .before .before .args .block .now) (c .before .before .before .loop .i) (pos 0))
@@ -43,30 +31,9 @@ returns c =
     let l = c .before .before .before .before .before .before .loop in
     look-fresh (l .inv) (c .before .before .before .before .before .loop-test .taken) (seen (c .before .before .before)) (c .before .change .given .1)
 
-enum-told : tie.Need-enum-told Inv-loop μ-loop
-enum-told c = search needs
-
-add-i : tie.Need-add-i Inv-loop μ-loop
-add-i c = search needs
-
-loop-less : tie.Need-loop-less Inv-loop μ-loop
-loop-less c = search needs
-
 loop-again : tie.Need-loop-again Inv-loop μ-loop
 loop-again c =
     look-kept (c .before .before .before .before .before .loop .inv) (c .before .before .before .before .loop-test .taken) (seen (c .before .before)) (c .enum-told .given .1)
-
-enum-told-2 : tie.Need-enum-told-2 Inv-loop μ-loop
-enum-told-2 c = search needs
-
-add-zeros : tie.Need-add-zeros Inv-loop μ-loop
-add-zeros c = search needs
-
-add-i-2 : tie.Need-add-i-2 Inv-loop μ-loop
-add-i-2 c = search needs
-
-loop-less-2 : tie.Need-loop-less-2 Inv-loop μ-loop
-loop-less-2 c = search needs
 
 loop-again-2 : tie.Need-loop-again-2 Inv-loop μ-loop
 loop-again-2 c =
@@ -82,18 +49,18 @@ ahead-of-spec =
     Inv-loop
     μ-loop
     loop-holds
-    mul-kind-of
-    shared-slice-copy-out-kind-of
-    kind-of-requires
-    enum-known-change
+    (λ c. search needs)
+    (λ c. search needs)
+    (λ c κs. search needs)
+    (λ c. search needs)
     returns
-    enum-told
-    add-i
-    loop-less
+    (λ c. search needs)
+    (λ c. search needs)
+    (λ c. search needs)
     loop-again
-    enum-told-2
-    add-zeros
-    add-i-2
-    loop-less-2
+    (λ c. search needs)
+    (λ c. search needs)
+    (λ c. search needs)
+    (λ c. search needs)
     loop-again-2
     returns-2)

@@ -4,20 +4,8 @@ use borrow.Author.Needs.{needs}
 use Rattle.ac_plan.proofs.over_job.Statement.{statement}
 use Rattle.ac_plan.proofs.over_job.Tie as tie
 
-enum-known-job : tie.Need-enum-known-job
-enum-known-job c = search needs
-
 returns : tie.Need-returns
 returns c = rw (c .before .before .job .given .1, c .if1 .taken)
-
-sub-t5 : tie.Need-sub-t5
-sub-t5 c = search needs
-
-enum-told : tie.Need-enum-told
-enum-told c = search needs
-
-enum-told-2 : tie.Need-enum-told-2
-enum-told-2 c = search needs
 
 returns-2 : tie.Need-returns-2
 returns-2 c = rw (c .before .before .job .given .1) (over-on _ (c .if1 .left))
@@ -31,4 +19,4 @@ returns-4 c = rw (c .enum-told2 .given .1)
 pub over-job-spec : {M : Type 1} → statement M
 over-job-spec =
     tie.close
-    (tie.spec enum-known-job returns sub-t5 enum-told enum-told-2 returns-2 returns-3 returns-4)
+    (tie.spec (λ c. search needs) returns (λ c. search needs) (λ c. search needs) (λ c. search needs) returns-2 returns-3 returns-4)

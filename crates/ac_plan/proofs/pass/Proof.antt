@@ -5,26 +5,11 @@ use borrow.Author.Needs.{needs}
 use Rattle.ac_plan.proofs.pass.Statement.{statement}
 use Rattle.ac_plan.proofs.pass.Tie as tie
 
-enum-known-job : tie.Need-enum-known-job
-enum-known-job c = search needs
-
 returns : tie.Need-returns
 returns c = rw (c .before .before .job .given .1, c .if1 .taken)
 
-sub-t8 : tie.Need-sub-t8
-sub-t8 c = search needs
-
-enum-known-job-2 : tie.Need-enum-known-job-2
-enum-known-job-2 c = search needs
-
 returns-2 : tie.Need-returns-2
 returns-2 c = rw (c .before .before .job2 .given .1, c .if2 .taken)
-
-sub-t11 : tie.Need-sub-t11
-sub-t11 c = search needs
-
-enum-known-job-3 : tie.Need-enum-known-job-3
-enum-known-job-3 c = search needs
 
 returns-3 : tie.Need-returns-3
 returns-3 c = rw (c .before .before .job .given .1) (pass-on _ none (c .if1 .left))
@@ -39,13 +24,13 @@ pub pass-spec : {M : Type 1} → statement M
 pass-spec =
     tie.close
     (tie.spec
-    enum-known-job
+    (λ c. search needs)
     returns
-    sub-t8
-    enum-known-job-2
+    (λ c. search needs)
+    (λ c. search needs)
     returns-2
-    sub-t11
-    enum-known-job-3
+    (λ c. search needs)
+    (λ c. search needs)
     returns-3
     returns-4
     returns-5)

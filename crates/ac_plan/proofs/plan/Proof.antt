@@ -5,18 +5,6 @@ use borrow.Author.Needs.{needs}
 use Rattle.ac_plan.proofs.plan.Statement.{statement}
 use Rattle.ac_plan.proofs.plan.Tie as tie
 
-ahead-of-requires : tie.Need-ahead-of-requires
-ahead-of-requires c κs = search needs
-
-enum-told : tie.Need-enum-told
-enum-told c = search needs
-
-quiet-of-requires : tie.Need-quiet-of-requires
-quiet-of-requires c κs = search needs
-
-enum-known-zeros : tie.Need-enum-known-zeros
-enum-known-zeros c = search needs
-
 returns : tie.Need-returns
 returns c = plan-set _ _ _ (c .before .before .before .before .ahead-of .ensures) (c .before .before .zeros .given .1) (c .if1 .taken)
 
@@ -32,10 +20,10 @@ pub plan-spec : {M : Type 1} → statement M
 plan-spec =
     tie.close
     (tie.spec
-    ahead-of-requires
-    enum-told
-    quiet-of-requires
-    enum-known-zeros
+    (λ c κs. search needs)
+    (λ c. search needs)
+    (λ c κs. search needs)
+    (λ c. search needs)
     returns
     returns-2
     returns-3)

@@ -19,27 +19,6 @@ abbrev μ-loop : tie.MeasureT-loop
 loop-holds : tie.Need-loop-holds Inv-loop μ-loop
 loop-holds c = passed-none _ _
 
-mul-at : tie.Need-mul-at Inv-loop μ-loop
-mul-at c = search needs
-
-add-end : tie.Need-add-end Inv-loop μ-loop
-add-end c = search needs
-
-mul-ahead-of : tie.Need-mul-ahead-of Inv-loop μ-loop
-mul-ahead-of c = search needs
-
-sub-ahead-of : tie.Need-sub-ahead-of Inv-loop μ-loop
-sub-ahead-of c = search needs
-
-part-ahead-of-start : tie.Need-part-ahead-of-start Inv-loop μ-loop
-part-ahead-of-start c = search needs
-
-part-ahead-of-end : tie.Need-part-ahead-of-end Inv-loop μ-loop
-part-ahead-of-end c = search needs
-
-ahead-of-requires : tie.Need-ahead-of-requires Inv-loop μ-loop
-ahead-of-requires c κs = search needs
-
 -- what is seen in the block
 seen : (c : tie.After-ahead-of Inv-loop μ-loop)
     → comingIs (c .ahead-of .result) ≡ ahead (kindsFrom (take 63 (drop (63 * c .before .before .before .loop .n) (c .before .before .before .before .args .later .now))) 0)
@@ -49,20 +28,8 @@ seen c =
     let size : 63 * n + 63 - 63 * n ≡ 63 = omega arith in
     c .ahead-of .ensures ∙ ap (λ (k : ℕ). ahead (kindsFrom (take k (drop (63 * n) later)) 0)) size
 
-enum-told : tie.Need-enum-told Inv-loop μ-loop
-enum-told c = search needs
-
 returns : tie.Need-returns Inv-loop μ-loop
 returns c = passed-new (c .before .before .before .before .before .loop .inv) _ (c .before .before .before .before .loop-test .taken) refl (seen (c .before .before)) (c .enum-told .given .1)
-
-enum-told-2 : tie.Need-enum-told-2 Inv-loop μ-loop
-enum-told-2 c = search needs
-
-add-n : tie.Need-add-n Inv-loop μ-loop
-add-n c = search needs
-
-loop-less : tie.Need-loop-less Inv-loop μ-loop
-loop-less c = search needs
 
 loop-again : tie.Need-loop-again Inv-loop μ-loop
 loop-again c = passed-one (c .before .before .before .before .before .loop .inv) _ (c .before .before .before .before .loop-test .taken) refl (seen (c .before .before)) (c .enum-told2 .given .1)
@@ -77,17 +44,17 @@ quiet-of-spec =
     Inv-loop
     μ-loop
     loop-holds
-    mul-at
-    add-end
-    mul-ahead-of
-    sub-ahead-of
-    part-ahead-of-start
-    part-ahead-of-end
-    ahead-of-requires
-    enum-told
+    (λ c. search needs)
+    (λ c. search needs)
+    (λ c. search needs)
+    (λ c. search needs)
+    (λ c. search needs)
+    (λ c. search needs)
+    (λ c κs. search needs)
+    (λ c. search needs)
     returns
-    enum-told-2
-    add-n
-    loop-less
+    (λ c. search needs)
+    (λ c. search needs)
+    (λ c. search needs)
     loop-again
     returns-2)

@@ -27,27 +27,12 @@ abbrev μ-loop : tie.MeasureT-loop
 loop-holds : tie.Need-loop-holds Inv-loop μ-loop
 loop-holds c = at-first (c .before .before .before .pre .1 .1)
 
-task-at-requires : tie.Need-task-at-requires Inv-loop μ-loop
-task-at-requires c κs = search needs
-
-enum-known-told : tie.Need-enum-known-told Inv-loop μ-loop
-enum-known-told c = search needs
-
 same-length : tie.Need-same-length Inv-loop μ-loop
 same-length c = c .before .before .before .before .before .loop .inv .long ∙ sym (c .before .before .before .before .before .before .before .before .before .pre .1 .1)
 
 returns : tie.Need-returns Inv-loop μ-loop
 unfolding toldOf blockOf
 returns c = at-untold (c .before .before .before .before .before .loop .inv) (c .before .before .before .before .loop-test .taken) (sym (c .before .before .before .task-at .ensures) ∙ ap (toldOf _) (c .before .told .given .1))
-
-enum-known-told-2 : tie.Need-enum-known-told-2 Inv-loop μ-loop
-enum-known-told-2 c = search needs
-
-mul-position : tie.Need-mul-position Inv-loop μ-loop
-mul-position c = search needs
-
-shared-slice-copy-out-position : tie.Need-shared-slice-copy-out-position Inv-loop μ-loop
-shared-slice-copy-out-position c = search needs
 
 -- what the code learns of the task
 told : (c : tie.After-told2 Inv-loop μ-loop)
@@ -64,9 +49,6 @@ old c = back w32 _ (c .position-arg .given)
 position-requires : tie.Need-position-requires Inv-loop μ-loop
 position-requires c κs = rw (old c) (c .before .before .before .before .before .before .before .before .before .before .pre .1 .0 _)
 
-enum-known-placed : tie.Need-enum-known-placed Inv-loop μ-loop
-enum-known-placed c = search needs
-
 same-length-2 : tie.Need-same-length-2 Inv-loop μ-loop
 same-length-2 c = c .before .before .before .before .before .before .before .before .before .before .loop .inv .long ∙ sym (c .before .before .before .before .before .before .before .before .before .before .before .before .before .before .pre .1 .1)
 
@@ -74,9 +56,6 @@ returns-2 : tie.Need-returns-2 Inv-loop μ-loop
 unfolding placedOf blockOf
 returns-2 c =
     at-stuck (c .before .before .before .before .before .before .before .before .before .before .loop .inv) (c .before .before .before .before .before .before .before .before .before .loop-test .taken) (told (c .before .before .before .before .before .before)) (rw (old (c .before .before .before .before)) at (sym (c .before .before .before .position .ensures) ∙ ap (placedOf _) (c .before .placed .given .1)))
-
-enum-known-placed-2 : tie.Need-enum-known-placed-2 Inv-loop μ-loop
-enum-known-placed-2 c = search needs
 
 mul-value : tie.Need-mul-value Inv-loop μ-loop
 mul-value c = omega (arith, c .before .before .before .before .before .before .before .before .before .before .before .before .before .before .good .1 .1 .1 .1 .1 .1 .0)
@@ -87,17 +66,11 @@ slice-set-from-value c = omega (arith, c .before .before .before .before .before
 add-i : tie.Need-add-i Inv-loop μ-loop
 add-i c = omega (arith, c .before .before .before .before .before .before .before .before .before .before .before .before .before .before .good .1 .1 .1 .1 .1 .1 .0)
 
-loop-less : tie.Need-loop-less Inv-loop μ-loop
-loop-less c = search needs
-
 loop-again : tie.Need-loop-again Inv-loop μ-loop
 unfolding placedOf
 loop-again c =
     rw (back w32 _ (c .known-told4 .given .0 .1))
     (at-turn (c .before .before .before .before .before .before .before .before .before .before .loop .inv) (c .before .before .before .before .before .before .before .before .before .loop-test .taken) (told (c .before .before .before .before .before .before)) (rw (old (c .before .before .before .before)) at (sym (c .before .before .before .position .ensures) ∙ ap (placedOf _) (c .before .placed2 .given .1))))
-
-block-end-requires : tie.Need-block-end-requires Inv-loop μ-loop
-block-end-requires c κs = search needs
 
 same-length-3 : tie.Need-same-length-3 Inv-loop μ-loop
 same-length-3 c = c .before .before .loop .inv .long ∙ sym (c .before .before .before .before .before .before .pre .1 .1)
@@ -112,23 +85,23 @@ read-block-spec =
     Inv-loop
     μ-loop
     loop-holds
-    task-at-requires
-    enum-known-told
+    (λ c κs. search needs)
+    (λ c. search needs)
     same-length
     returns
-    enum-known-told-2
-    mul-position
-    shared-slice-copy-out-position
+    (λ c. search needs)
+    (λ c. search needs)
+    (λ c. search needs)
     position-requires
-    enum-known-placed
+    (λ c. search needs)
     same-length-2
     returns-2
-    enum-known-placed-2
+    (λ c. search needs)
     mul-value
     slice-set-from-value
     add-i
-    loop-less
+    (λ c. search needs)
     loop-again
-    block-end-requires
+    (λ c κs. search needs)
     same-length-3
     returns-3)

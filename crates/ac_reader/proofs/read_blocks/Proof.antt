@@ -32,29 +32,14 @@ room c = omega (arith, c .before .loop .inv .place, c .before .loop .inv .long, 
 add-end : tie.Need-add-end Inv-loop μ-loop
 add-end c = let h = within c in search needs
 
-sub-read-block : tie.Need-sub-read-block Inv-loop μ-loop
-sub-read-block c = search needs
-
 mul-read-block : tie.Need-mul-read-block Inv-loop μ-loop
 mul-read-block c = let h = within c in search needs
-
-sub-read-block-2 : tie.Need-sub-read-block-2 Inv-loop μ-loop
-sub-read-block-2 c = search needs
-
-part-read-block-start : tie.Need-part-read-block-start Inv-loop μ-loop
-part-read-block-start c = search needs
 
 part-read-block-end : tie.Need-part-read-block-end Inv-loop μ-loop
 part-read-block-end c = let h = within c in search needs
 
 mul-read-block-2 : tie.Need-mul-read-block-2 Inv-loop μ-loop
 mul-read-block-2 c = let h = within (c .before) in search needs
-
-sub-read-block-3 : tie.Need-sub-read-block-3 Inv-loop μ-loop
-sub-read-block-3 c = search needs
-
-part-read-block-start-2 : tie.Need-part-read-block-start-2 Inv-loop μ-loop
-part-read-block-start-2 c = search needs
 
 part-read-block-end-2 : tie.Need-part-read-block-end-2 Inv-loop μ-loop
 part-read-block-end-2 c = let h = room (c .before) in search needs
@@ -69,24 +54,9 @@ read-block-requires c κs =
 long : (c : tie.After-read-block Inv-loop μ-loop) → length (c .read-block .last .1 .1 .1 .1 .1 .1 .1 .0) ≡ c .before .before .before .before .loop .at + 63 - c .before .before .before .before .loop .at
 long c = c .read-block .kept .1 .1 .1 .1 .1 .1 .1 .0 ∙ mid-len (c .before .before .before .before .loop .at) (c .before .before .before .before .loop .at + 63) (c .before .before .before .before .loop .destination) (room (c .before .before .before))
 
-enum-known-read : tie.Need-enum-known-read Inv-loop μ-loop
-enum-known-read c = search needs
-
-same-length : tie.Need-same-length Inv-loop μ-loop
-same-length c = search needs
-
 returns : tie.Need-returns Inv-loop μ-loop
 unfolding blockOf
 returns c = behind-stopped (c .before .before .before .before .before .before .before .before .loop .inv) (c .before .before .before .before .before .before .before .loop-test .taken) (c .before .before .before .before .before .before .before .before .before .before .before .before .pre .1 .1 .1) (c .before .before .before .before .read-block .last .1 .1 .1 .1 .1 .1 .1 .0) (long (c .before .before .before .before)) (sym (c .before .before .before .before .read-block .ensures) ∙ ap (blockOf _ _) (c .before .read .given .1))
-
-enum-known-read-2 : tie.Need-enum-known-read-2 Inv-loop μ-loop
-enum-known-read-2 c = search needs
-
-add-block : tie.Need-add-block Inv-loop μ-loop
-add-block c = search needs
-
-loop-less : tie.Need-loop-less Inv-loop μ-loop
-loop-less c = search needs
 
 loop-again : tie.Need-loop-again Inv-loop μ-loop
 unfolding blockOf
@@ -106,22 +76,22 @@ read-blocks-spec =
     μ-loop
     loop-holds
     add-end
-    sub-read-block
+    (λ c. search needs)
     mul-read-block
-    sub-read-block-2
-    part-read-block-start
+    (λ c. search needs)
+    (λ c. search needs)
     part-read-block-end
     mul-read-block-2
-    sub-read-block-3
-    part-read-block-start-2
+    (λ c. search needs)
+    (λ c. search needs)
     part-read-block-end-2
     read-block-requires
-    enum-known-read
-    same-length
+    (λ c. search needs)
+    (λ c. search needs)
     returns
-    enum-known-read-2
-    add-block
-    loop-less
+    (λ c. search needs)
+    (λ c. search needs)
+    (λ c. search needs)
     loop-again
     same-length-2
     returns-2)

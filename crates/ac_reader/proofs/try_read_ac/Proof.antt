@@ -1,7 +1,6 @@
 -- `ac_reader::try_read_ac` meets its contract: the refusals in their order. Assumes nothing.
 use mathlib.Core.Path.{_≡_, sym, _∙_}
 use mathlib.Core.Bool.{true}
-use Prim.Native.Nat.{_-_}
 use borrow.Author.Tests.{not-true, not-false, eq-eqb, ne-eqb, le-leb, lt-leb}
 use Rattle.laws.specs.Index.{every}
 use Rattle.answers.proofs.Laws.{tried-refused}
@@ -15,12 +14,6 @@ use native.Mathlib.Omega.{arith}
 use borrow.Author.Needs.{needs}
 use Rattle.ac_reader.proofs.try_read_ac.Statement.{statement}
 use Rattle.ac_reader.proofs.try_read_ac.Tie as tie
-
-in-ranges-requires : tie.Need-in-ranges-requires
-in-ranges-requires c κs = search needs
-
-refuse-requires : tie.Need-refuse-requires
-refuse-requires c κs = search needs
 
 returns : tie.Need-returns
 unfolding readAc
@@ -36,18 +29,9 @@ good c = ranged (c .before .before .before .before .before .args .plane) (c .bef
 mul-count : tie.Need-mul-count
 mul-count c = let r = good c in search needs
 
-refuse-requires-2 : tie.Need-refuse-requires-2
-refuse-requires-2 c κs = search needs
-
 returns-2 : tie.Need-returns-2
 unfolding readAc
 returns-2 c = tried-refused (c .refuse2 .ensures) (rw (counts (c .before .before), ne-eqb _ _ (c .before .if2 .taken)))
-
-good-table-requires : tie.Need-good-table-requires
-good-table-requires c κs = search needs
-
-refuse-requires-3 : tie.Need-refuse-requires-3
-refuse-requires-3 c κs = search needs
 
 returns-3 : tie.Need-returns-3
 unfolding readAc
@@ -62,29 +46,14 @@ tabled c = sym (c .before .good-table .ensures) ∙ not-false _ (c .if3 .left)
 sub-level : tie.Need-sub-level
 sub-level c = let r = good (c .before .before .before) in omega arith
 
-cast-level : tie.Need-cast-level
-cast-level c = search needs
-
 first-outside-requires : tie.Need-first-outside-requires
 first-outside-requires c κs = let r = good (c .before .before .before) in omega arith
-
-enum-known-i : tie.Need-enum-known-i
-enum-known-i c = search needs
-
-refuse-requires-4 : tie.Need-refuse-requires-4
-refuse-requires-4 c κs = search needs
 
 returns-4 : tie.Need-returns-4
 unfolding readAc
 returns-4 c =
     tried-refused (c .refuse4 .ensures)
     (rw (counts (c .before .before .before .before .before .before .before .before), eq-eqb _ _ (c .before .before .before .before .before .before .before .if2 .left), tabled (c .before .before .before .before .before), sym (c .before .before .before .before .first-outside .ensures) ∙ c .before .before .i .given .1))
-
-enum-told : tie.Need-enum-told
-enum-told c = search needs
-
-refuse-requires-5 : tie.Need-refuse-requires-5
-refuse-requires-5 c κs = search needs
 
 returns-5 : tie.Need-returns-5
 unfolding readAc
@@ -97,12 +66,6 @@ read-blocks-requires c κs =
     let r = good (c .before .before .before .before .before .before .before .before) in
     (tabled (c .before .before .before .before .before), (all-small _ _ _ (omega arith) (sym (c .before .before .before .before .first-outside .ensures) ∙ c .before .before .enum-told .given .1), (c .before .before .before .before .before .before .before .if2 .left, c .before .if4 .left)))
 
-close-plane-requires : tie.Need-close-plane-requires
-close-plane-requires c κs = search needs
-
-same-length : tie.Need-same-length
-same-length c = search needs
-
 returns-6 : tie.Need-returns-6
 unfolding readAc
 returns-6 c =
@@ -113,25 +76,25 @@ pub try-read-ac-spec : {M : Type 1} → statement M
 try-read-ac-spec =
     tie.close
     (tie.spec
-    in-ranges-requires
-    refuse-requires
+    (λ c κs. search needs)
+    (λ c κs. search needs)
     returns
     mul-count
-    refuse-requires-2
+    (λ c κs. search needs)
     returns-2
-    good-table-requires
-    refuse-requires-3
+    (λ c κs. search needs)
+    (λ c κs. search needs)
     returns-3
     sub-level
-    cast-level
+    (λ c. search needs)
     first-outside-requires
-    enum-known-i
-    refuse-requires-4
+    (λ c. search needs)
+    (λ c κs. search needs)
     returns-4
-    enum-told
-    refuse-requires-5
+    (λ c. search needs)
+    (λ c κs. search needs)
     returns-5
     read-blocks-requires
-    close-plane-requires
-    same-length
+    (λ c κs. search needs)
+    (λ c. search needs)
     returns-6)

@@ -31,9 +31,6 @@ more c = fit w32 (omega (arith, c .pre, bin-small (c .args .bit), abs-prod (pos 
 mul-result : tie.Need-mul-result
 mul-result c = let h = double (c .before) in search needs
 
-cast-result : tie.Need-cast-result
-cast-result c = search needs
-
 sub-result : tie.Need-sub-result
 sub-result c = rw (toZ-ofZ (c .before .fits .value), toZ-ofZ (double (c .before)), bit-read (c .before)) (less (c .before))
 
@@ -42,9 +39,6 @@ returns c = rw (toZ-ofZ (c .before .fits .value), toZ-ofZ (double (c .before)), 
 
 mul-result-2 : tie.Need-mul-result-2
 mul-result-2 c = let h = double (c .before) in search needs
-
-cast-result-2 : tie.Need-cast-result-2
-cast-result-2 c = search needs
 
 add-result : tie.Need-add-result
 add-result c = rw (toZ-ofZ (c .before .fits .value), toZ-ofZ (double (c .before)), bit-read (c .before)) (more (c .before))
@@ -57,10 +51,10 @@ corrected-spec =
     tie.close
     (tie.spec
     mul-result
-    cast-result
+    (λ c. search needs)
     sub-result
     returns
     mul-result-2
-    cast-result-2
+    (λ c. search needs)
     add-result
     returns-2)

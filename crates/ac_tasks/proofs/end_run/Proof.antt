@@ -10,15 +10,6 @@ use borrow.Author.Needs.{needs}
 use Rattle.ac_tasks.proofs.end_run.Statement.{statement}
 use Rattle.ac_tasks.proofs.end_run.Tie as tie
 
-take-number-requires : tie.Need-take-number-requires
-take-number-requires c κs = search needs
-
-enum-known-t : tie.Need-enum-known-t
-enum-known-t c = search needs
-
-shl-run : tie.Need-shl-run
-shl-run c = search needs
-
 add-run : tie.Need-add-run
 add-run c =
     let r = c .before .before .before .before .before .args .r in
@@ -32,9 +23,6 @@ unfolding endRun toldOf numberOf
 returns c =
     let a = c .before .before .before .before .before .before .args in
     rw (sym (c .before .before .before .before .take-number .ensures .same) ∙ ap (numberOf _) (c .before .before .t .given .1), run-fits (a .left) (a .r) (c .before .before .t .given .0 .0) (c .before .before .before .before .before .before .pre) (c .if1 .taken), moved-one (a .r) (c .before .before .before .before .before .before .pre))
-
-enum-known-t-2 : tie.Need-enum-known-t-2
-enum-known-t-2 c = search needs
 
 returns-2 : tie.Need-returns-2
 unfolding endRun toldOf numberOf
@@ -50,12 +38,12 @@ pub end-run-spec : {M : Type 1} → statement M
 end-run-spec =
     tie.close
     (tie.spec
-    take-number-requires
-    enum-known-t
-    shl-run
+    (λ c κs. search needs)
+    (λ c. search needs)
+    (λ c. search needs)
     add-run
     sub-t13
     returns
-    enum-known-t-2
+    (λ c. search needs)
     returns-2
     returns-3)

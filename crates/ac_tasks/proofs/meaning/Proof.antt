@@ -9,15 +9,9 @@ use borrow.Author.Needs.{needs}
 use Rattle.ac_tasks.proofs.meaning.Statement.{statement}
 use Rattle.ac_tasks.proofs.meaning.Tie as tie
 
-wide-requires : tie.Need-wide-requires
-wide-requires c κs = search needs
-
 returns : tie.Need-returns
 unfolding toldOf
 returns c = unused (c .before .before .before .args .v) _ _ _ (c .if1 .taken)
-
-end-run-requires : tie.Need-end-run-requires
-end-run-requires c κs = search needs
 
 returns-2 : tie.Need-returns-2
 unfolding meaning
@@ -26,18 +20,6 @@ returns-2 c = rw (low-bits (c .before .before .before .before .before .before .a
 returns-3 : tie.Need-returns-3
 unfolding meaning toldOf
 returns-3 c = rw (low-bits (c .before .before .before .before .before .args .v) 0 (c .before .if2 .taken), ← (c .before .before .before .wide .ensures), le-ltb _ 15 (c .if3 .left))
-
-take-bit-requires : tie.Need-take-bit-requires
-take-bit-requires c κs = search needs
-
-enum-known-t : tie.Need-enum-known-t
-enum-known-t c = search needs
-
-enum-told : tie.Need-enum-told
-enum-told c = search needs
-
-enum-told-2 : tie.Need-enum-told-2
-enum-told-2 c = search needs
 
 returns-4 : tie.Need-returns-4
 unfolding meaning toldOf takenOf
@@ -55,15 +37,15 @@ pub meaning-spec : {M : Type 1} → statement M
 meaning-spec =
     tie.close
     (tie.spec
-    wide-requires
+    (λ c κs. search needs)
     returns
-    end-run-requires
+    (λ c κs. search needs)
     returns-2
     returns-3
-    take-bit-requires
-    enum-known-t
-    enum-told
-    enum-told-2
+    (λ c κs. search needs)
+    (λ c. search needs)
+    (λ c. search needs)
+    (λ c. search needs)
     returns-4
     returns-5
     returns-6)

@@ -8,29 +8,11 @@ use borrow.Author.Needs.{needs}
 use Rattle.ac_tasks.proofs.pass_zero.Statement.{statement}
 use Rattle.ac_tasks.proofs.pass_zero.Tie as tie
 
-enum-known-job : tie.Need-enum-known-job
-enum-known-job c = search needs
-
 returns : tie.Need-returns
 returns c = passes-last (ap taskOf (c .before .before .job .given .1)) (c .if1 .taken) refl
 
-sub-t10 : tie.Need-sub-t10
-sub-t10 c = search needs
-
-enum-known-job-2 : tie.Need-enum-known-job-2
-enum-known-job-2 c = search needs
-
-unit-requires : tie.Need-unit-requires
-unit-requires c κs = search needs
-
 returns-2 : tie.Need-returns-2
 returns-2 c = passes-last (ap taskOf (c .before .before .before .job2 .given .1)) (c .before .if2 .taken) (sym (back w32 _ (c .unit .ok) ∙ c .unit .ensures))
-
-sub-t16 : tie.Need-sub-t16
-sub-t16 c = search needs
-
-enum-known-job-3 : tie.Need-enum-known-job-3
-enum-known-job-3 c = search needs
 
 returns-3 : tie.Need-returns-3
 returns-3 c = passes-on (ap taskOf (c .before .before .job .given .1)) (c .if1 .left) refl
@@ -45,14 +27,14 @@ pub pass-zero-spec : {M : Type 1} → statement M
 pass-zero-spec =
     tie.close
     (tie.spec
-    enum-known-job
+    (λ c. search needs)
     returns
-    sub-t10
-    enum-known-job-2
-    unit-requires
+    (λ c. search needs)
+    (λ c. search needs)
+    (λ c κs. search needs)
     returns-2
-    sub-t16
-    enum-known-job-3
+    (λ c. search needs)
+    (λ c. search needs)
     returns-3
     returns-4
     returns-5)

@@ -12,29 +12,11 @@ use borrow.Author.Needs.{needs}
 use Rattle.ac_tasks.proofs.position.Statement.{statement}
 use Rattle.ac_tasks.proofs.position.Tie as tie
 
-pass-zero-requires : tie.Need-pass-zero-requires
-pass-zero-requires c κs = search needs
-
 returns : tie.Need-returns
 unfolding position
 returns c =
     let z = sym (toZ-ofZ (c .before .before .before .fits .value)) ∙ ap (toZ w32) (c .before .if1 .taken) in
     rw z (c .pass-zero .ensures .same _)
-
-take-bit-requires : tie.Need-take-bit-requires
-take-bit-requires c κs = search needs
-
-enum-known-t : tie.Need-enum-known-t
-enum-known-t c = search needs
-
-corrected-requires : tie.Need-corrected-requires
-corrected-requires c κs = search needs
-
-enum-told : tie.Need-enum-told
-enum-told c = search needs
-
-enum-told-2 : tie.Need-enum-told-2
-enum-told-2 c = search needs
 
 returns-2 : tie.Need-returns-2
 unfolding placedOf takenOf
@@ -54,13 +36,13 @@ pub position-spec : {M : Type 1} → statement M
 position-spec =
     tie.close
     (tie.spec
-    pass-zero-requires
+    (λ c κs. search needs)
     returns
-    take-bit-requires
-    enum-known-t
-    corrected-requires
-    enum-told
-    enum-told-2
+    (λ c κs. search needs)
+    (λ c. search needs)
+    (λ c κs. search needs)
+    (λ c. search needs)
+    (λ c. search needs)
     returns-2
     returns-3
     returns-4)

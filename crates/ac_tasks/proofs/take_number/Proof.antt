@@ -17,40 +17,19 @@ abbrev μ-loop : tie.MeasureT-loop
 loop-holds : tie.Need-loop-holds Inv-loop μ-loop
 loop-holds c = now-first
 
-take-bit-requires : tie.Need-take-bit-requires Inv-loop μ-loop
-take-bit-requires c κs = search needs
-
-enum-known-t : tie.Need-enum-known-t Inv-loop μ-loop
-enum-known-t c = search needs
-
 mul-v : tie.Need-mul-v Inv-loop μ-loop
 mul-v c = omega (arith, now-small (c .before .before .before .before .before .loop .inv) (c .before .before .before .before .before .before .before .pre))
 
-cast-v : tie.Need-cast-v Inv-loop μ-loop
-cast-v c = search needs
-
 add-v : tie.Need-add-v Inv-loop μ-loop
 add-v c = omega (arith, bin-small (c .before .t .given .0 .0), now-small (c .before .before .before .before .before .loop .inv) (c .before .before .before .before .before .before .before .pre))
-
-enum-told : tie.Need-enum-told Inv-loop μ-loop
-enum-told c = search needs
 
 returns : tie.Need-returns Inv-loop μ-loop
 unfolding takenOf
 returns c = now-stopped (c .before .before .before .before .loop .inv) (c .before .before .before .loop-test .taken) (sym (c .before .before .take-bit .ensures) ∙ ap (takenOf _) (c .enum-told .given .1))
 
-enum-told-2 : tie.Need-enum-told-2 Inv-loop μ-loop
-enum-told-2 c = search needs
-
 returns-2 : tie.Need-returns-2 Inv-loop μ-loop
 unfolding takenOf
 returns-2 c = now-stopped (c .before .before .before .before .loop .inv) (c .before .before .before .loop-test .taken) (sym (c .before .before .take-bit .ensures) ∙ ap (takenOf _) (c .enum-told2 .given .1))
-
-sub-left : tie.Need-sub-left Inv-loop μ-loop
-sub-left c = search needs
-
-loop-less : tie.Need-loop-less Inv-loop μ-loop
-loop-less c = search needs
 
 loop-again : tie.Need-loop-again Inv-loop μ-loop
 unfolding takenOf
@@ -66,16 +45,16 @@ take-number-spec =
     Inv-loop
     μ-loop
     loop-holds
-    take-bit-requires
-    enum-known-t
+    (λ c κs. search needs)
+    (λ c. search needs)
     mul-v
-    cast-v
+    (λ c. search needs)
     add-v
-    enum-told
+    (λ c. search needs)
     returns
-    enum-told-2
+    (λ c. search needs)
     returns-2
-    sub-left
-    loop-less
+    (λ c. search needs)
+    (λ c. search needs)
     loop-again
     returns-3)

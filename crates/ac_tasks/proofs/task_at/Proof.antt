@@ -7,24 +7,6 @@ use borrow.Author.Needs.{needs}
 use Rattle.ac_tasks.proofs.task_at.Statement.{statement}
 use Rattle.ac_tasks.proofs.task_at.Tie as tie
 
-enum-known-task : tie.Need-enum-known-task
-enum-known-task c = search needs
-
-enum-told : tie.Need-enum-told
-enum-told c = search needs
-
-take-code-requires : tie.Need-take-code-requires
-take-code-requires c κs = search needs
-
-enum-known-t : tie.Need-enum-known-t
-enum-known-t c = search needs
-
-meaning-requires : tie.Need-meaning-requires
-meaning-requires c κs = search needs
-
-enum-known-t-2 : tie.Need-enum-known-t-2
-enum-known-t-2 c = search needs
-
 returns : tie.Need-returns
 unfolding taskAt toldOf
 returns c = rw (c .before .task .given .1)
@@ -41,12 +23,12 @@ pub task-at-spec : {M : Type 1} → statement M
 task-at-spec =
     tie.close
     (tie.spec
-    enum-known-task
-    enum-told
-    take-code-requires
-    enum-known-t
-    meaning-requires
-    enum-known-t-2
+    (λ c. search needs)
+    (λ c. search needs)
+    (λ c κs. search needs)
+    (λ c. search needs)
+    (λ c κs. search needs)
+    (λ c. search needs)
     returns
     returns-2
     returns-3)

@@ -4,12 +4,6 @@ use borrow.Author.Needs.{needs}
 use Rattle.ac_writer.proofs.begin.Statement.{statement}
 use Rattle.ac_writer.proofs.begin.Tie as tie
 
-enum-known-task : tie.Need-enum-known-task
-enum-known-task c = search needs
-
-enum-told : tie.Need-enum-told
-enum-told c = search needs
-
 plan-requires : tie.Need-plan-requires
 plan-requires c κs = c .before .before .before .before .before .before .pre .1 .1
 
@@ -19,13 +13,10 @@ emit-requires c κs = (c .before .before .before .before .before .before .before
 returns : tie.Need-returns
 returns c = begins-open _ _ (c .before .task .given .1) (c .before .before .before .before .before .before .before .pre .0 .sound)
 
-same-length : tie.Need-same-length
-same-length c = search needs
-
 returns-2 : tie.Need-returns-2
 returns-2 c = begins-need _ _ (c .before .before .before .before .before .enum-told .given .1) (c .before .before .before .before .plan .ensures) (c .before .before .emit .ensures)
 
 pub begin-spec : {M : Type 1} → statement M
 begin-spec =
     tie.close
-    (tie.spec enum-known-task enum-told plan-requires emit-requires returns same-length returns-2)
+    (tie.spec (λ c. search needs) (λ c. search needs) plan-requires emit-requires returns (λ c. search needs) returns-2)

@@ -20,12 +20,6 @@ loop-holds c = (omega arith, omega arith)
 returns : tie.Need-returns Inv-loop μ-loop
 returns c = (class-here _ _ _ (c .before .loop-test .taken) (c .if1 .taken) (c .before .before .loop .inv .1), c .before .before .loop .inv .0)
 
-add-r : tie.Need-add-r Inv-loop μ-loop
-add-r c = search needs
-
-loop-less : tie.Need-loop-less Inv-loop μ-loop
-loop-less c = search needs
-
 loop-again : tie.Need-loop-again Inv-loop μ-loop
 loop-again c = (omega arith, class-turn _ _ _ (c .before .loop-test .taken) (c .if1 .left) (c .before .before .loop .inv .1))
 
@@ -34,4 +28,4 @@ returns-2 c = (class-end _ _ _ (c .before .loop .inv .0) (c .loop-test .left) (c
 
 pub class-of-spec : {M : Type 1} → statement M
 class-of-spec =
-    tie.close (tie.spec Inv-loop μ-loop loop-holds returns add-r loop-less loop-again returns-2)
+    tie.close (tie.spec Inv-loop μ-loop loop-holds returns (λ c. search needs) (λ c. search needs) loop-again returns-2)

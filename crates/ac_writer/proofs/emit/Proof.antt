@@ -9,9 +9,6 @@ use borrow.Author.Needs.{needs}
 use Rattle.ac_writer.proofs.emit.Statement.{statement}
 use Rattle.ac_writer.proofs.emit.Tie as tie
 
-enum-known-job : tie.Need-enum-known-job
-enum-known-job c = search needs
-
 mul-tell-code : tie.Need-mul-tell-code
 mul-tell-code c = omega (arith, short-leave (c .before .before .before .before .before .before .before .pre .1 .1) (c .before .before .job .given .1))
 
@@ -20,9 +17,6 @@ cast-tell-code c = omega (arith, short-leave (c .before .before .before .before 
 
 tell-code-requires : tie.Need-tell-code-requires
 tell-code-requires c κs = (c .before .before .before .before .before .before .before .pre .0, c .before .before .before .before .before .before .before .pre .1 .0)
-
-enum-known-job-2 : tie.Need-enum-known-job-2
-enum-known-job-2 c = search needs
 
 mul-tell-code-2 : tie.Need-mul-tell-code-2
 mul-tell-code-2 c = omega (arith, short-set (c .before .before .before .before .before .before .before .pre .1 .1) (c .before .before .job2 .given .1))
@@ -42,28 +36,16 @@ tell-bit-requires c κs =
     let t = c .before .before .before .tell-code2 .ensures in
     (t .put .sound, omega (arith, t .put .near, code-bits _ (a .pre .1 .0) (16 * c .before .before .before .before .before .before .job2 .given .0 .0 + 1), a .pre .0 .near))
 
-enum-known-job-3 : tie.Need-enum-known-job-3
-enum-known-job-3 c = search needs
-
 tell-run-requires : tie.Need-tell-run-requires
 tell-run-requires c κs = (c .before .before .before .before .before .before .before .pre .0, (c .before .before .before .before .before .before .before .pre .1 .0, short-ended (c .before .before .before .before .before .before .before .pre .1 .1) (c .before .before .job3 .given .1)))
-
-same-length : tie.Need-same-length
-same-length c = search needs
 
 returns : tie.Need-returns
 unfolding written.emit
 returns c = rw (c .before .before .before .before .before .job .given .1) (c .before .before .tell-code .ensures)
 
-same-length-2 : tie.Need-same-length-2
-same-length-2 c = search needs
-
 returns-2 : tie.Need-returns-2
 unfolding written.emit
 returns-2 c = rw (c .before .before .before .before .before .before .before .before .before .job2 .given .1) (told-then (c .before .before .before .before .before .before .tell-code2 .ensures) (c .before .before .tell-bit .ensures _))
-
-same-length-3 : tie.Need-same-length-3
-same-length-3 c = search needs
 
 returns-3 : tie.Need-returns-3
 returns-3 c = rw (c .before .before .before .before .before .job3 .given .1) (c .before .before .tell-run .ensures)
@@ -72,21 +54,21 @@ pub emit-spec : {M : Type 1} → statement M
 emit-spec =
     tie.close
     (tie.spec
-    enum-known-job
+    (λ c. search needs)
     mul-tell-code
     cast-tell-code
     tell-code-requires
-    enum-known-job-2
+    (λ c. search needs)
     mul-tell-code-2
     add-tell-code
     cast-tell-code-2
     tell-code-requires-2
     tell-bit-requires
-    enum-known-job-3
+    (λ c. search needs)
     tell-run-requires
-    same-length
+    (λ c. search needs)
     returns
-    same-length-2
+    (λ c. search needs)
     returns-2
-    same-length-3
+    (λ c. search needs)
     returns-3)

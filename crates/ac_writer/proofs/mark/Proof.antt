@@ -5,21 +5,6 @@ use borrow.Author.Needs.{needs}
 use Rattle.ac_writer.proofs.mark.Statement.{statement}
 use Rattle.ac_writer.proofs.mark.Tie as tie
 
-enum-known-change : tie.Need-enum-known-change
-enum-known-change c = search needs
-
-tell-bit-requires : tie.Need-tell-bit-requires
-tell-bit-requires c κs = search needs
-
-enum-told : tie.Need-enum-told
-enum-told c = search needs
-
-enum-told-2 : tie.Need-enum-told-2
-enum-told-2 c = search needs
-
-same-length : tie.Need-same-length
-same-length c = search needs
-
 returns : tie.Need-returns
 unfolding kindIs
 returns c T = rw (c .before .before .before .before .before .change .given .1) (c .before .before .tell-bit .ensures T)
@@ -36,11 +21,11 @@ pub mark-spec : {M : Type 1} → statement M
 mark-spec =
     tie.close
     (tie.spec
-    enum-known-change
-    tell-bit-requires
-    enum-told
-    enum-told-2
-    same-length
+    (λ c. search needs)
+    (λ c κs. search needs)
+    (λ c. search needs)
+    (λ c. search needs)
+    (λ c. search needs)
     returns
     returns-2
     returns-3)

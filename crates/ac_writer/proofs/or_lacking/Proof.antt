@@ -3,12 +3,6 @@ use borrow.Author.Needs.{needs}
 use Rattle.ac_writer.proofs.or_lacking.Statement.{statement}
 use Rattle.ac_writer.proofs.or_lacking.Tie as tie
 
-enum-known-lack : tie.Need-enum-known-lack
-enum-known-lack c = search needs
-
-enum-told : tie.Need-enum-told
-enum-told c = search needs
-
 returns : tie.Need-returns
 returns c = rw (c .before .lack .given .1)
 
@@ -16,4 +10,4 @@ returns-2 : tie.Need-returns-2
 returns-2 c = rw (c .enum-told .given .1)
 
 pub or-lacking-spec : {M : Type 1} → statement M
-or-lacking-spec = tie.close (tie.spec enum-known-lack enum-told returns returns-2)
+or-lacking-spec = tie.close (tie.spec (λ c. search needs) (λ c. search needs) returns returns-2)

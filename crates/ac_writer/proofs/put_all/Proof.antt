@@ -13,20 +13,8 @@ use Rattle.ac_writer.proofs.put_all.Tie as tie
 put-blocks-requires : tie.Need-put-blocks-requires
 put-blocks-requires c κs = c .before .before .before .before .pre
 
-enum-known-lack : tie.Need-enum-known-lack
-enum-known-lack c = search needs
-
-refuse-requires : tie.Need-refuse-requires
-refuse-requires c κs = search needs
-
-same-length : tie.Need-same-length
-same-length c = search needs
-
 returns : tie.Need-returns
 returns c = tried-refused (c .refuse .ensures) (rw (sym (c .before .before .before .before .before .before .put-blocks .ensures .lack) ∙ c .before .before .lack .given .1))
-
-enum-told : tie.Need-enum-told
-enum-told c = search needs
 
 put-end-requires : tie.Need-put-end-requires
 put-end-requires c κs =
@@ -34,20 +22,11 @@ put-end-requires c κs =
     let f = c .before .before .before .before .before .before .put-blocks .ensures .put in
     (f .sound, omega (arith, f .near, plane-length (table (a .args .counts .now) (a .args .codes .now)) (a .pre .0) (a .args .blocks) (a .args .values .now), a .pre .1 .1))
 
-refuse-requires-2 : tie.Need-refuse-requires-2
-refuse-requires-2 c κs = search needs
-
-same-length-2 : tie.Need-same-length-2
-same-length-2 c = search needs
-
 returns-2 : tie.Need-returns-2
 returns-2 c =
     let a = c .before .before .before .before .before .before .before .before .before .before .before .before .before .before .before .before .args in
     rw (sym (c .before .before .before .before .before .before .before .before .before .before .before .put-blocks .ensures .lack) ∙ c .before .before .before .before .before .before .before .enum-told .given .1)
     (fitting-short _ (acBytes (a .blocks) (table (a .counts .now) (a .codes .now)) (a .values .now)) (all-counted (c .before .before .before .before .before .before .before .before .before .before .before .put-blocks .ensures .put) (c .before .before .before .before .put-end .ensures)) (omega arith) (c .refuse2 .ensures))
-
-same-length-3 : tie.Need-same-length-3
-same-length-3 c = search needs
 
 returns-3 : tie.Need-returns-3
 returns-3 c =
@@ -62,14 +41,14 @@ put-all-spec =
     tie.close
     (tie.spec
     put-blocks-requires
-    enum-known-lack
-    refuse-requires
-    same-length
+    (λ c. search needs)
+    (λ c κs. search needs)
+    (λ c. search needs)
     returns
-    enum-told
+    (λ c. search needs)
     put-end-requires
-    refuse-requires-2
-    same-length-2
+    (λ c κs. search needs)
+    (λ c. search needs)
     returns-2
-    same-length-3
+    (λ c. search needs)
     returns-3)

@@ -24,17 +24,8 @@ step-requires c κs =
     let a = c .before .before .before .before .before .before .pre in
     (walk-ready _ _ (c .before .before .loop .inv .1) (a .1 .0 .0) (a .1 .0 .1) (a .0 .1), ((a .1 .0 .0, c .before .loop-test .taken), a .1 .1))
 
-add-i : tie.Need-add-i Inv-loop μ-loop
-add-i c = search needs
-
-loop-less : tie.Need-loop-less Inv-loop μ-loop
-loop-less c = search needs
-
 loop-again : tie.Need-loop-again Inv-loop μ-loop
 loop-again c = (c .before .before .step .kept .0 ∙ c .before .before .before .before .before .loop .inv .0, walk-turn _ _ (c .before .before .before .before .before .loop .inv .1) (c .before .before .before .before .loop-test .taken) (c .before .before .step .ensures))
-
-over-requires : tie.Need-over-requires Inv-loop μ-loop
-over-requires c κs = search needs
 
 same-length : tie.Need-same-length Inv-loop μ-loop
 same-length c = c .before .before .before .loop .inv .0
@@ -50,9 +41,9 @@ put-block-spec =
     μ-loop
     loop-holds
     step-requires
-    add-i
-    loop-less
+    (λ c. search needs)
+    (λ c. search needs)
     loop-again
-    over-requires
+    (λ c κs. search needs)
     same-length
     returns)

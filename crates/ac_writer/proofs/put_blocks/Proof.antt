@@ -19,42 +19,6 @@ abbrev μ-loop : tie.MeasureT-loop
 loop-holds : tie.Need-loop-holds Inv-loop μ-loop
 loop-holds c = (refl, run-start _ _)
 
-mul-at : tie.Need-mul-at Inv-loop μ-loop
-mul-at c = search needs
-
-add-end : tie.Need-add-end Inv-loop μ-loop
-add-end c = search needs
-
-add-left : tie.Need-add-left Inv-loop μ-loop
-add-left c = search needs
-
-sub-left : tie.Need-sub-left Inv-loop μ-loop
-sub-left c = search needs
-
-mul-put-block : tie.Need-mul-put-block Inv-loop μ-loop
-mul-put-block c = search needs
-
-sub-put-block : tie.Need-sub-put-block Inv-loop μ-loop
-sub-put-block c = search needs
-
-part-put-block-start : tie.Need-part-put-block-start Inv-loop μ-loop
-part-put-block-start c = search needs
-
-part-put-block-end : tie.Need-part-put-block-end Inv-loop μ-loop
-part-put-block-end c = search needs
-
-mul-put-block-2 : tie.Need-mul-put-block-2 Inv-loop μ-loop
-mul-put-block-2 c = search needs
-
-sub-put-block-2 : tie.Need-sub-put-block-2 Inv-loop μ-loop
-sub-put-block-2 c = search needs
-
-part-put-block-start-2 : tie.Need-part-put-block-start-2 Inv-loop μ-loop
-part-put-block-start-2 c = search needs
-
-part-put-block-end-2 : tie.Need-part-put-block-end-2 Inv-loop μ-loop
-part-put-block-end-2 c = search needs
-
 put-block-requires : tie.Need-put-block-requires Inv-loop μ-loop
 put-block-requires c κs =
     let a = c .before .before .before .before .before .before .before .before .pre in
@@ -64,12 +28,6 @@ put-block-requires c κs =
       (w .telling .going .sound, run-near _ _ w (a .0) (a .1 .1)),
       ((a .0, part-short values n), (rest-long values n _ (a .1 .0) (c .before .before .before .loop-test .taken), omega (arith, a .1 .1))),
     )
-
-add-n : tie.Need-add-n Inv-loop μ-loop
-add-n c = search needs
-
-loop-less : tie.Need-loop-less Inv-loop μ-loop
-loop-less c = search needs
 
 loop-again : tie.Need-loop-again Inv-loop μ-loop
 loop-again c = (c .before .before .put-block .kept .0 ∙ c .before .before .before .before .before .before .before .loop .inv .0, run-turn _ _ (c .before .before .before .before .before .before .before .loop .inv .1) _ _ (c .before .before .before .before .before .before .loop-test .taken) (part-is (c .before .before .before .before .before .before .before .before .before .before .before .args .values .now) (c .before .before .before .before .before .before .before .loop .n)) (rest-is (c .before .before .before .before .before .before .before .before .before .before .before .args .values .now) (c .before .before .before .before .before .before .before .loop .n)) (c .before .before .put-block .ensures))
@@ -87,21 +45,21 @@ put-blocks-spec =
     Inv-loop
     μ-loop
     loop-holds
-    mul-at
-    add-end
-    add-left
-    sub-left
-    mul-put-block
-    sub-put-block
-    part-put-block-start
-    part-put-block-end
-    mul-put-block-2
-    sub-put-block-2
-    part-put-block-start-2
-    part-put-block-end-2
+    (λ c. search needs)
+    (λ c. search needs)
+    (λ c. search needs)
+    (λ c. search needs)
+    (λ c. search needs)
+    (λ c. search needs)
+    (λ c. search needs)
+    (λ c. search needs)
+    (λ c. search needs)
+    (λ c. search needs)
+    (λ c. search needs)
+    (λ c. search needs)
     put-block-requires
-    add-n
-    loop-less
+    (λ c. search needs)
+    (λ c. search needs)
     loop-again
     same-length
     returns)

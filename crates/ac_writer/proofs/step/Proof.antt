@@ -11,25 +11,10 @@ use Rattle.ac_writer.proofs.step.Tie as tie
 begin-requires : tie.Need-begin-requires
 begin-requires c κs = (c .before .before .before .before .pre .0, (c .before .before .before .before .pre .1 .0 .0, c .before .before .before .before .pre .1 .1))
 
-mul-kind-of : tie.Need-mul-kind-of
-mul-kind-of c = search needs
-
-shared-slice-copy-out-kind-of : tie.Need-shared-slice-copy-out-kind-of
-shared-slice-copy-out-kind-of c = search needs
-
-kind-of-requires : tie.Need-kind-of-requires
-kind-of-requires c κs = search needs
-
 mark-requires : tie.Need-mark-requires
 mark-requires c κs =
     let a = c .before .before .before .before .before .before .before .before .before .before .before in
     begins-near _ _ (c .before .before .before .before .before .before .begin .ensures) (a .pre .1 .0 .0) (a .pre .0)
-
-after-requires : tie.Need-after-requires
-after-requires c κs = search needs
-
-same-length : tie.Need-same-length
-same-length c = search needs
 
 returns : tie.Need-returns
 returns c =
@@ -40,10 +25,10 @@ step-spec =
     tie.close
     (tie.spec
     begin-requires
-    mul-kind-of
-    shared-slice-copy-out-kind-of
-    kind-of-requires
+    (λ c. search needs)
+    (λ c. search needs)
+    (λ c κs. search needs)
     mark-requires
-    after-requires
-    same-length
+    (λ c κs. search needs)
+    (λ c. search needs)
     returns)

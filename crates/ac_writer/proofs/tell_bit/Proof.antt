@@ -10,11 +10,8 @@ use Rattle.ac_writer.proofs.tell_bit.Tie as tie
 put-bit-requires : tie.Need-put-bit-requires
 put-bit-requires c κs = let a = c .before .before .before in (a .pre .0, omega (arith, a .pre .1))
 
-same-length : tie.Need-same-length
-same-length c = search needs
-
 returns : tie.Need-returns
 returns c T = told-bits (c .before .before .before .before .before .before .args .bit ∷ []) (c .before .before .put-bit .ensures) refl
 
 pub tell-bit-spec : {M : Type 1} → statement M
-tell-bit-spec = tie.close (tie.spec put-bit-requires same-length returns)
+tell-bit-spec = tie.close (tie.spec put-bit-requires (λ c. search needs) returns)

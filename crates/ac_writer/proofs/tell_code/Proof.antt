@@ -9,25 +9,10 @@ use borrow.Author.Needs.{needs}
 use Rattle.ac_writer.proofs.tell_code.Statement.{statement}
 use Rattle.ac_writer.proofs.tell_code.Tie as tie
 
-place-of-requires : tie.Need-place-of-requires
-place-of-requires c κs = search needs
-
-enum-known-place : tie.Need-enum-known-place
-enum-known-place c = search needs
-
 put-code-requires : tie.Need-put-code-requires
 put-code-requires c κs =
     let a = c .before .before .before .before .before .before .before .before .before in
     (a .pre .0 .sound, (omega (arith, a .pre .0 .near), a .pre .1, placed (a .args .value) (a .args .codes .now) _ (sym (c .before .before .before .before .place-of .ensures) ∙ c .before .before .place .given .1) .0))
-
-enum-told : tie.Need-enum-told
-enum-told c = search needs
-
-or-lacking-requires : tie.Need-or-lacking-requires
-or-lacking-requires c κs = search needs
-
-same-length : tie.Need-same-length
-same-length c = search needs
 
 returns : tie.Need-returns
 returns c =
@@ -43,11 +28,11 @@ pub tell-code-spec : {M : Type 1} → statement M
 tell-code-spec =
     tie.close
     (tie.spec
-    place-of-requires
-    enum-known-place
+    (λ c κs. search needs)
+    (λ c. search needs)
     put-code-requires
-    enum-told
-    or-lacking-requires
-    same-length
+    (λ c. search needs)
+    (λ c κs. search needs)
+    (λ c. search needs)
     returns
     returns-2)

@@ -11,9 +11,6 @@ use Rattle.ac_writer.proofs.tell_run.Tie as tie
 add-class-of : tie.Need-add-class-of
 add-class-of c = omega (arith, c .before .before .before .pre .1 .1)
 
-class-of-requires : tie.Need-class-of-requires
-class-of-requires c κs = search needs
-
 mul-tell-code : tie.Need-mul-tell-code
 mul-tell-code c = omega (arith, c .before .class-of .ensures .1)
 
@@ -35,9 +32,6 @@ put-digits-requires c κs =
     let t = c .before .before .before .before .tell-code .ensures in
     (t .put .sound, (omega (arith, t .put .near, code-bits _ (a .pre .1 .0) (16 * c .before .before .before .before .before .before .class-of .result), a .pre .0 .near), omega (arith, c .before .before .before .before .before .before .class-of .ensures .1)))
 
-same-length : tie.Need-same-length
-same-length c = search needs
-
 returns : tie.Need-returns
 returns c = told-run (c .before .before .before .before .before .before .before .before .before .before .before .before .before .args .n) (c .before .before .before .before .before .before .before .before .before .class-of .result) (c .before .before .before .before .before .before .before .before .before .class-of .ensures .0) (c .before .before .before .before .before .before .before .tell-code .ensures) (c .before .before .put-digits .ensures) refl
 
@@ -46,12 +40,12 @@ tell-run-spec =
     tie.close
     (tie.spec
     add-class-of
-    class-of-requires
+    (λ c κs. search needs)
     mul-tell-code
     cast-tell-code
     tell-code-requires
     add-put-digits
     cast-put-digits
     put-digits-requires
-    same-length
+    (λ c. search needs)
     returns)

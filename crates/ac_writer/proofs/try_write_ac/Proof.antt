@@ -13,12 +13,6 @@ use borrow.Author.Needs.{needs}
 use Rattle.ac_writer.proofs.try_write_ac.Statement.{statement}
 use Rattle.ac_writer.proofs.try_write_ac.Tie as tie
 
-in-written-ranges-requires : tie.Need-in-written-ranges-requires
-in-written-ranges-requires c κs = search needs
-
-refuse-requires : tie.Need-refuse-requires
-refuse-requires c κs = search needs
-
 returns : tie.Need-returns
 unfolding writeAc
 returns c = tried-refused (c .refuse .ensures) (rw (sym (c .before .before .in-written-ranges .ensures) ∙ not-true _ (c .before .if1 .taken)))
@@ -33,18 +27,9 @@ good c = ranged (c .before .before .before .before .before .args .plane) (c .bef
 mul-if2 : tie.Need-mul-if2
 mul-if2 c = let r = good c in omega arith
 
-refuse-requires-2 : tie.Need-refuse-requires-2
-refuse-requires-2 c κs = search needs
-
 returns-2 : tie.Need-returns-2
 unfolding writeAc
 returns-2 c = tried-refused (c .refuse2 .ensures) (rw (counts (c .before .before), ne-eqb _ _ (c .before .if2 .taken)))
-
-good-table-requires : tie.Need-good-table-requires
-good-table-requires c κs = search needs
-
-refuse-requires-3 : tie.Need-refuse-requires-3
-refuse-requires-3 c κs = search needs
 
 returns-3 : tie.Need-returns-3
 unfolding writeAc
@@ -52,12 +37,6 @@ returns-3 c = tried-refused (c .refuse3 .ensures) (rw (counts (c .before .before
 
 first-outside-requires : tie.Need-first-outside-requires
 first-outside-requires c κs = let r = good (c .before .before .before) in omega arith
-
-enum-known-i : tie.Need-enum-known-i
-enum-known-i c = search needs
-
-refuse-requires-4 : tie.Need-refuse-requires-4
-refuse-requires-4 c κs = search needs
 
 -- and so is the table
 tabled : (c : tie.Else3) → goodTable (table (c .before .before .before .before .before .before .before .before .args .counts .now) (c .before .before .before .before .before .before .before .before .args .codes .now)) ≡ true
@@ -69,14 +48,8 @@ returns-4 c =
     tried-refused (c .refuse4 .ensures)
     (rw (counts (c .before .before .before .before .before .before .before .before), eq-eqb _ _ (c .before .before .before .before .before .before .before .if2 .left), tabled (c .before .before .before .before .before), sym (c .before .before .before .before .first-outside .ensures) ∙ c .before .before .i .given .1))
 
-enum-told : tie.Need-enum-told
-enum-told c = search needs
-
 put-all-requires : tie.Need-put-all-requires
 put-all-requires c κs = let r = good (c .before .before .before .before .before .before .before) in (tabled (c .before .before .before .before), (c .before .before .before .before .before .before .if2 .left, omega arith))
-
-same-length : tie.Need-same-length
-same-length c = search needs
 
 returns-5 : tie.Need-returns-5
 unfolding writeAc
@@ -87,20 +60,20 @@ pub try-write-ac-spec : {M : Type 1} → statement M
 try-write-ac-spec =
     tie.close
     (tie.spec
-    in-written-ranges-requires
-    refuse-requires
+    (λ c κs. search needs)
+    (λ c κs. search needs)
     returns
     mul-if2
-    refuse-requires-2
+    (λ c κs. search needs)
     returns-2
-    good-table-requires
-    refuse-requires-3
+    (λ c κs. search needs)
+    (λ c κs. search needs)
     returns-3
     first-outside-requires
-    enum-known-i
-    refuse-requires-4
+    (λ c. search needs)
+    (λ c κs. search needs)
     returns-4
-    enum-told
+    (λ c. search needs)
     put-all-requires
-    same-length
+    (λ c. search needs)
     returns-5)

@@ -7,8 +7,6 @@ use lib.ListN.{length}
 use Rattle.answers.proofs.Laws.{Cleared, clear-start, clear-turn, clear-end}
 use Rattle.answers.proofs.clear_i32.Statement.{statement}
 use Rattle.answers.proofs.clear_i32.Tie as tie
-use Rattle.answers.proofs.clear_i32.Reads as reads
-use Rattle.answers.proofs.clear_i32.Lts as lts
 
 abbrev Inv-loop : tie.InvT-loop
 Inv-loop destination₀ i₀ destination i = Cleared (pos 0) destination₀ destination i
@@ -18,15 +16,6 @@ abbrev μ-loop : tie.MeasureT-loop
 
 loop-holds : tie.Need-loop-holds Inv-loop μ-loop
 loop-holds c = clear-start _ _
-
-mul-destination : tie.Need-mul-destination Inv-loop μ-loop
-mul-destination c = search needs
-
-slice-set-of-destination : tie.Need-slice-set-of-destination Inv-loop μ-loop
-slice-set-of-destination c = omega arith
-
-add-i : tie.Need-add-i Inv-loop μ-loop
-add-i c = omega arith
 
 loop-less : tie.Need-loop-less Inv-loop μ-loop
 loop-less c = omega (arith, c .before .loop .inv .long)
@@ -47,9 +36,9 @@ clear-i32-spec =
     Inv-loop
     μ-loop
     loop-holds
-    mul-destination
-    slice-set-of-destination
-    add-i
+    (λ c. search needs)
+    (λ c. omega arith)
+    (λ c. omega arith)
     loop-less
     loop-again
     same-length

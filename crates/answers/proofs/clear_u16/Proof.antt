@@ -6,8 +6,6 @@ use lib.ListN.{length}
 use Rattle.answers.proofs.Laws.{Cleared, clear-start, clear-turn, clear-end}
 use Rattle.answers.proofs.clear_u16.Statement.{statement}
 use Rattle.answers.proofs.clear_u16.Tie as tie
-use Rattle.answers.proofs.clear_u16.Reads as reads
-use Rattle.answers.proofs.clear_u16.Lts as lts
 
 abbrev Inv-loop : tie.InvT-loop
 Inv-loop destination₀ i₀ destination i = Cleared 0 destination₀ destination i
@@ -17,15 +15,6 @@ abbrev μ-loop : tie.MeasureT-loop
 
 loop-holds : tie.Need-loop-holds Inv-loop μ-loop
 loop-holds c = clear-start _ _
-
-mul-destination : tie.Need-mul-destination Inv-loop μ-loop
-mul-destination c = search needs
-
-slice-write-destination : tie.Need-slice-write-destination Inv-loop μ-loop
-slice-write-destination c = omega arith
-
-add-i : tie.Need-add-i Inv-loop μ-loop
-add-i c = omega arith
 
 loop-less : tie.Need-loop-less Inv-loop μ-loop
 loop-less c = omega (arith, c .before .loop .inv .long)
@@ -46,9 +35,9 @@ clear-u16-spec =
     Inv-loop
     μ-loop
     loop-holds
-    mul-destination
-    slice-write-destination
-    add-i
+    (λ c. search needs)
+    (λ c. omega arith)
+    (λ c. omega arith)
     loop-less
     loop-again
     same-length

@@ -1,13 +1,10 @@
 -- `answers::clear_u8` meets its contract: behind i elements the destination begins with i zeros. Assumes nothing.
-use borrow.Author.Needs.{needs}
 use native.Mathlib.Omega.{arith}
 use Prim.Native.Nat.{_-_}
 use lib.ListN.{length}
 use Rattle.answers.proofs.Laws.{Cleared, clear-start, clear-turn, clear-end}
 use Rattle.answers.proofs.clear_u8.Statement.{statement}
 use Rattle.answers.proofs.clear_u8.Tie as tie
-use Rattle.answers.proofs.clear_u8.Reads as reads
-use Rattle.answers.proofs.clear_u8.Lts as lts
 
 abbrev Inv-loop : tie.InvT-loop
 Inv-loop destination₀ i₀ destination i = Cleared 0 destination₀ destination i
@@ -17,12 +14,6 @@ abbrev μ-loop : tie.MeasureT-loop
 
 loop-holds : tie.Need-loop-holds Inv-loop μ-loop
 loop-holds c = clear-start _ _
-
-slice-write-destination : tie.Need-slice-write-destination Inv-loop μ-loop
-slice-write-destination c = omega arith
-
-add-i : tie.Need-add-i Inv-loop μ-loop
-add-i c = omega arith
 
 loop-less : tie.Need-loop-less Inv-loop μ-loop
 loop-less c = omega (arith, c .before .loop .inv .long)
@@ -43,8 +34,8 @@ clear-u8-spec =
     Inv-loop
     μ-loop
     loop-holds
-    slice-write-destination
-    add-i
+    (λ c. omega arith)
+    (λ c. omega arith)
     loop-less
     loop-again
     same-length

@@ -1,13 +1,11 @@
 -- `asking::digit` meets its contract: each return goes by the tests that led there.
-use Rattle.asking.specs.Words.{digit, readFrom, typeOf, instanceOf}
-use mathlib.Core.Path.{_≡_, refl, sym, ap, subst, _∙_}
+use Rattle.asking.specs.Words.{digit}
+use mathlib.Core.Path.{refl}
 use native.Mathlib.Omega.{arith}
-use borrow.Author.Tests.{lt-ltb, le-ltb, le-leb, lt-leb, eq-eqb, ne-eqb, not-true, not-false}
+use borrow.Author.Tests.{lt-ltb, le-ltb}
 use borrow.Author.Needs.{needs}
 use Rattle.asking.proofs.digit.Statement.{statement}
 use Rattle.asking.proofs.digit.Tie as tie
-use Rattle.asking.proofs.digit.Reads as reads
-use Rattle.asking.proofs.digit.Lts as lts
 
 returns : tie.Need-returns
 unfolding digit
@@ -21,9 +19,6 @@ returns-3 : tie.Need-returns-3
 unfolding digit
 returns-3 c = simp (le-ltb _ _ (c .before .before .if1 .left), le-ltb _ _ (c .before .if2 .left), lt-ltb _ _ (c .if3 .taken)) (refl, omega arith)
 
-sub-result : tie.Need-sub-result
-sub-result c = search needs
-
 returns-4 : tie.Need-returns-4
 unfolding digit
 returns-4 c = simp (le-ltb _ _ (c .before .before .before .if1 .left), le-ltb _ _ (c .before .before .if2 .left), le-ltb _ _ (c .before .if3 .left), lt-ltb _ _ (c .if4 .taken)) (refl, omega arith)
@@ -31,9 +26,6 @@ returns-4 c = simp (le-ltb _ _ (c .before .before .before .if1 .left), le-ltb _ 
 returns-5 : tie.Need-returns-5
 unfolding digit
 returns-5 c = simp (le-ltb _ _ (c .before .before .before .before .if1 .left), le-ltb _ _ (c .before .before .before .if2 .left), le-ltb _ _ (c .before .before .if3 .left), le-ltb _ _ (c .before .if4 .left), lt-ltb _ _ (c .if5 .taken)) (refl, omega arith)
-
-sub-result-2 : tie.Need-sub-result-2
-sub-result-2 c = search needs
 
 returns-6 : tie.Need-returns-6
 unfolding digit
@@ -50,9 +42,9 @@ digit-spec =
     returns
     returns-2
     returns-3
-    sub-result
+    (λ c. search needs)
     returns-4
     returns-5
-    sub-result-2
+    (λ c. search needs)
     returns-6
     returns-7)

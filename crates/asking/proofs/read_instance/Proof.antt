@@ -1,26 +1,13 @@
-use Rattle.asking.specs.Words.{digit, readFrom, typeOf, instanceOf}
-use borrow.Author.Tests.{lt-ltb, le-ltb, le-leb, lt-leb, eq-eqb, ne-eqb, not-true, not-false}
-use mathlib.Core.Path.{_≡_, refl, sym, ap, subst, _∙_}
-use native.Mathlib.Omega.{arith}
+use Rattle.asking.specs.Words.{instanceOf}
+use borrow.Author.Tests.{le-leb, lt-leb, eq-eqb, ne-eqb}
+use mathlib.Core.Path.{sym, _∙_}
 use borrow.Author.Needs.{needs}
 use Rattle.asking.proofs.read_instance.Statement.{statement}
 use Rattle.asking.proofs.read_instance.Tie as tie
-use Rattle.asking.proofs.read_instance.Reads as reads
-use Rattle.asking.proofs.read_instance.Lts as lts
-use Rattle.asking.proofs.read_number.Reads as read-number-reads
 
 returns : tie.Need-returns
 unfolding instanceOf
 returns c = rw (eq-eqb _ _ (c .if1 .taken))
-
-read-number-requires : tie.Need-read-number-requires
-read-number-requires c κs = search needs
-
-enum-told : tie.Need-enum-told
-enum-told c = search needs
-
-enum-known-value : tie.Need-enum-known-value
-enum-known-value c = search needs
 
 returns-2 : tie.Need-returns-2
 unfolding instanceOf
@@ -39,9 +26,9 @@ read-instance-spec =
     tie.close
     (tie.spec
     returns
-    read-number-requires
-    enum-told
-    enum-known-value
+    (λ c κs. search needs)
+    (λ c. search needs)
+    (λ c. search needs)
     returns-2
     returns-3
     returns-4)

@@ -1,20 +1,14 @@
 -- `asking::read_number` meets its contract: what the rest makes behind the value is what the word makes.
-use borrow.Author.Tests.{lt-ltb, le-ltb, le-leb, lt-leb, eq-eqb, ne-eqb, not-true, not-false}
 use Rattle.asking.proofs.Reading.{read-large, read-other, read-more, read-end}
-use Rattle.asking.specs.Words.{digit, readFrom, typeOf, instanceOf}
+use Rattle.asking.specs.Words.{digit, readFrom}
 use native.Mathlib.Nat.{mul-le-mul-right}
 use lib.ListN.{length, drop, getD, drop-of-length-le}
-use Prim.Native.Nat.{_*_}
-use Prim.Native.Nat.{ℕ, suc, _+_, _-_, _≤_, _<_}
-use mathlib.Core.Path.{_≡_, refl, sym, ap, subst, _∙_}
+use Prim.Native.Nat.{_-_, _<_}
+use mathlib.Core.Path.{_≡_, refl, sym, ap, _∙_}
 use native.Mathlib.Omega.{arith}
 use borrow.Author.Needs.{needs}
 use Rattle.asking.proofs.read_number.Statement.{statement}
 use Rattle.asking.proofs.read_number.Tie as tie
-use Rattle.asking.proofs.read_number.Reads as reads
-use Rattle.asking.proofs.read_number.Lts as lts
-use Rattle.asking.proofs.digit.Reads as digit-reads
-use Rattle.asking.proofs.wide.Reads as wide-reads
 
 abbrev Inv-loop : tie.InvT-loop
 Inv-loop word base i₀ value₀ i value = (readFrom base value (drop i word) ≡ readFrom base 0 word) × (value < 4294967296)
@@ -28,15 +22,6 @@ loop-holds c = (refl, omega arith)
 returns : tie.Need-returns Inv-loop μ-loop
 returns c = sym (read-large _ _ _ (c .before .before .loop .i) (c .before .loop-test .taken) (c .if1 .taken)) ∙ c .before .before .loop .inv .0
 
-shared-slice-read-wide : tie.Need-shared-slice-read-wide Inv-loop μ-loop
-shared-slice-read-wide c = search needs
-
-wide-requires : tie.Need-wide-requires Inv-loop μ-loop
-wide-requires c κs = search needs
-
-digit-requires : tie.Need-digit-requires Inv-loop μ-loop
-digit-requires c κs = search needs
-
 returns-2 : tie.Need-returns-2 Inv-loop μ-loop
 returns-2 c = let e : c .before .digit .result ≡ digit (getD (c .before .before .before .before .before .before .before .before .args .word .now) (c .before .before .before .before .before .before .loop .i) 0) = c .before .digit .ensures .0 ∙ ap digit (c .before .before .wide .ensures .0) in
     sym (read-other _ _ _ (c .before .before .before .before .before .before .loop .i) (c .before .before .before .before .before .loop-test .taken) (c .before .before .before .before .if1 .left) (rw (← e) (c .if2 .taken))) ∙ c .before .before .before .before .before .before .loop .inv .0
@@ -46,12 +31,6 @@ mul-value c = omega (arith, mul-le-mul-right (c .before .before .before .before 
 
 add-value : tie.Need-add-value Inv-loop μ-loop
 add-value c = omega (arith, mul-le-mul-right (c .before .before .before .before .before .before .before .before .args .base) (c .before .before .before .before .if1 .left), c .before .before .before .before .before .before .before .before .pre, c .before .digit .ensures .1)
-
-add-i : tie.Need-add-i Inv-loop μ-loop
-add-i c = search needs
-
-loop-less : tie.Need-loop-less Inv-loop μ-loop
-loop-less c = search needs
 
 loop-again : tie.Need-loop-again Inv-loop μ-loop
 loop-again c = let e : c .before .digit .result ≡ digit (getD (c .before .before .before .before .before .before .before .before .args .word .now) (c .before .before .before .before .before .before .loop .i) 0) = c .before .digit .ensures .0 ∙ ap digit (c .before .before .wide .ensures .0) in
@@ -68,13 +47,13 @@ read-number-spec =
     μ-loop
     loop-holds
     returns
-    shared-slice-read-wide
-    wide-requires
-    digit-requires
+    (λ c. search needs)
+    (λ c κs. search needs)
+    (λ c κs. search needs)
     returns-2
     mul-value
     add-value
-    add-i
-    loop-less
+    (λ c. search needs)
+    (λ c. search needs)
     loop-again
     returns-3)

@@ -23,12 +23,6 @@ mul-h c = omega (arith, held-byte _ _ (c .before .loop .inv .2))
 add-h : tie.Need-add-h Inv-loop μ-loop
 add-h c = omega (arith, held-byte _ _ (c .before .loop .inv .2))
 
-sub-m : tie.Need-sub-m Inv-loop μ-loop
-sub-m c = search needs
-
-loop-less : tie.Need-loop-less Inv-loop μ-loop
-loop-less c = search needs
-
 loop-again : tie.Need-loop-again Inv-loop μ-loop
 loop-again c = (padded-on _ _ (c .loop-test .taken) ∙ c .before .loop .inv .0, omega arith, room-on _ _ (c .before .loop .inv .1) (c .loop-test .taken) (c .before .loop .inv .2))
 
@@ -50,8 +44,8 @@ fill-up-spec =
     loop-holds
     mul-h
     add-h
-    sub-m
-    loop-less
+    (λ c. search needs)
+    (λ c. search needs)
     loop-again
     mul-result
     add-result

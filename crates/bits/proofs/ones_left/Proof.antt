@@ -19,12 +19,6 @@ loop-holds c = refl
 returns : tie.Need-returns Inv-loop μ-loop
 returns c = sym (ones-stop _ _ (c .before .loop-test .taken) (c .if1 .taken)) ∙ c .before .before .loop .inv
 
-sub-n : tie.Need-sub-n Inv-loop μ-loop
-sub-n c = search needs
-
-loop-less : tie.Need-loop-less Inv-loop μ-loop
-loop-less c = search needs
-
 loop-again : tie.Need-loop-again Inv-loop μ-loop
 loop-again c = ones-on _ _ (c .before .loop-test .taken) (c .if1 .left) ∙ c .before .before .loop .inv
 
@@ -33,4 +27,4 @@ returns-2 c = ones-end _ _ (c .loop-test .left) ∙ c .before .loop .inv
 
 pub ones-left-spec : {M : Type 1} → statement M
 ones-left-spec =
-    tie.close (tie.spec Inv-loop μ-loop loop-holds returns sub-n loop-less loop-again returns-2)
+    tie.close (tie.spec Inv-loop μ-loop loop-holds returns (λ c. search needs) (λ c. search needs) loop-again returns-2)

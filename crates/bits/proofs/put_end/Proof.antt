@@ -10,12 +10,6 @@ returns c = end-empty (c .if1 .taken)
 fill-up-requires : tie.Need-fill-up-requires
 fill-up-requires c κs = (c .before .before .before .pre .0 .room, c .before .before .before .pre .0 .held)
 
-put-byte-requires : tie.Need-put-byte-requires
-put-byte-requires c κs = search needs
-
-same-length : tie.Need-same-length
-same-length c = search needs
-
 returns-2 : tie.Need-returns-2
 returns-2 c =
     let f = c .before .before .before .before .fill-up .ensures in
@@ -23,4 +17,4 @@ returns-2 c =
 
 pub put-end-spec : {M : Type 1} → statement M
 put-end-spec =
-    tie.close (tie.spec returns fill-up-requires put-byte-requires same-length returns-2)
+    tie.close (tie.spec returns fill-up-requires (λ c κs. search needs) (λ c. search needs) returns-2)

@@ -18,24 +18,6 @@ abbrev μ-loop : tie.MeasureT-loop
 loop-holds : tie.Need-loop-holds Inv-loop μ-loop
 loop-holds c = (paste-zero (c .args .destination .now) (c .args .to) (drop (c .args .start) (c .args .file .now)), omega arith, refl)
 
-add-destination : tie.Need-add-destination Inv-loop μ-loop
-add-destination c = search needs
-
-shared-slice-read-destination : tie.Need-shared-slice-read-destination Inv-loop μ-loop
-shared-slice-read-destination c = search needs
-
-add-destination-2 : tie.Need-add-destination-2 Inv-loop μ-loop
-add-destination-2 c = search needs
-
-slice-write-destination : tie.Need-slice-write-destination Inv-loop μ-loop
-slice-write-destination c = search needs
-
-add-i : tie.Need-add-i Inv-loop μ-loop
-add-i c = search needs
-
-loop-less : tie.Need-loop-less Inv-loop μ-loop
-loop-less c = search needs
-
 loop-again : tie.Need-loop-again Inv-loop μ-loop
 loop-again c = let a = c .before .before .before .args in
     let l = c .before .before .loop in
@@ -58,12 +40,12 @@ copy-part-spec =
     Inv-loop
     μ-loop
     loop-holds
-    add-destination
-    shared-slice-read-destination
-    add-destination-2
-    slice-write-destination
-    add-i
-    loop-less
+    (λ c. search needs)
+    (λ c. search needs)
+    (λ c. search needs)
+    (λ c. search needs)
+    (λ c. search needs)
+    (λ c. search needs)
     loop-again
     same-length
     returns)

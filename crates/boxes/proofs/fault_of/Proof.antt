@@ -8,24 +8,6 @@ use Rattle.boxes.proofs.fault_of.Tie as tie
 returns : tie.Need-returns
 returns c = ordered-fine _ _ _ (sym (c .before .before .pre .1) ∙ c .if1 .taken)
 
-first-missing-requires : tie.Need-first-missing-requires
-first-missing-requires c κs = search needs
-
-enum-told : tie.Need-enum-told
-enum-told c = search needs
-
-enum-known-m : tie.Need-enum-known-m
-enum-known-m c = search needs
-
-first-twice-requires : tie.Need-first-twice-requires
-first-twice-requires c κs = search needs
-
-enum-known-q : tie.Need-enum-known-q
-enum-known-q c = search needs
-
-enum-told-2 : tie.Need-enum-told-2
-enum-told-2 c = search needs
-
 returns-2 : tie.Need-returns-2
 returns-2 c = searched-fine _ _ _ (c .before .before .before .before .before .pre .0) (c .before .before .first-missing .ensures) (c .enum-told .given .1)
 
@@ -40,12 +22,12 @@ fault-of-spec =
     tie.close
     (tie.spec
     returns
-    first-missing-requires
-    enum-told
-    enum-known-m
-    first-twice-requires
-    enum-known-q
-    enum-told-2
+    (λ c κs. search needs)
+    (λ c. search needs)
+    (λ c. search needs)
+    (λ c κs. search needs)
+    (λ c. search needs)
+    (λ c. search needs)
     returns-2
     returns-3
     returns-4)

@@ -9,30 +9,6 @@ use borrow.Author.Needs.{needs}
 use Rattle.boxes.proofs.judged.Statement.{statement}
 use Rattle.boxes.proofs.judged.Tie as tie
 
-walk-all-requires : tie.Need-walk-all-requires
-walk-all-requires c κs = search needs
-
-enum-known-r : tie.Need-enum-known-r
-enum-known-r c = search needs
-
-enum-told : tie.Need-enum-told
-enum-told c = search needs
-
-next-mine-requires : tie.Need-next-mine-requires
-next-mine-requires c κs = search needs
-
-enum-told-2 : tie.Need-enum-told-2
-enum-told-2 c = search needs
-
-not-requires : tie.Need-not-requires
-not-requires c κs = search needs
-
-enum-known-head : tie.Need-enum-known-head
-enum-known-head c = search needs
-
-checked-requires : tie.Need-checked-requires
-checked-requires c κs = search needs
-
 returns : tie.Need-returns
 returns c = file-refused _ _ _ _ (sym (c .before .before .before .walk-all .ensures) ∙ c .before .r .given .1)
 
@@ -49,14 +25,14 @@ pub judged-spec : {M : Type 1} → statement M
 judged-spec =
     tie.close
     (tie.spec
-    walk-all-requires
-    enum-known-r
-    enum-told
-    next-mine-requires
-    enum-told-2
-    not-requires
-    enum-known-head
-    checked-requires
+    (λ c κs. search needs)
+    (λ c. search needs)
+    (λ c. search needs)
+    (λ c κs. search needs)
+    (λ c. search needs)
+    (λ c κs. search needs)
+    (λ c. search needs)
+    (λ c κs. search needs)
     returns
     returns-2
     returns-3)

@@ -20,20 +20,11 @@ abbrev μ-loop : tie.MeasureT-loop
 loop-holds : tie.Need-loop-holds Inv-loop μ-loop
 loop-holds c = write-start _ _ _ (omega (arith, c .before .before .pre))
 
-next-mine-requires : tie.Need-next-mine-requires Inv-loop μ-loop
-next-mine-requires c κs = search needs
-
-enum-told : tie.Need-enum-told Inv-loop μ-loop
-enum-told c = search needs
-
 same-length : tie.Need-same-length Inv-loop μ-loop
 same-length c = c .before .before .before .loop .inv .size
 
 returns : tie.Need-returns Inv-loop μ-loop
 returns c = write-done (c .before .before .before .loop .inv) (payloads-none (gone _ _ _ _ (c .before .before .next-mine .ensures) (c .enum-told .given .1))) .0
-
-enum-known-start : tie.Need-enum-known-start Inv-loop μ-loop
-enum-known-start c = search needs
 
 copy-part-requires : tie.Need-copy-part-requires Inv-loop μ-loop
 copy-part-requires c κs = let m = met _ _ _ _ (c .before .before .before .before .next-mine .ensures) (c .before .before .start .given .1) in (omega arith, payload-turn (c .before .before .before .before .before .loop .inv) m .0)
@@ -54,11 +45,11 @@ put-in-order-spec =
     Inv-loop
     μ-loop
     loop-holds
-    next-mine-requires
-    enum-told
+    (λ c κs. search needs)
+    (λ c. search needs)
     same-length
     returns
-    enum-known-start
+    (λ c. search needs)
     copy-part-requires
     add-to
     loop-less

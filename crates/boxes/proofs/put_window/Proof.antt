@@ -16,35 +16,14 @@ Inv-loop file kind instance passed k places destination₀ to i₀ end₀ destin
 abbrev μ-loop : tie.MeasureT-loop
 μ-loop file kind instance passed k places destination₀ to i₀ end₀ destination i end = k - i
 
-locate-requires : tie.Need-locate-requires Inv-loop μ-loop
-locate-requires c κs = search needs
-
 loop-holds : tie.Need-loop-holds Inv-loop μ-loop
 loop-holds c = (window-start _ _ _ _ _ (c .before .before .before .before .before .before .before .pre .fits), omega arith)
-
-mul-next-mine : tie.Need-mul-next-mine Inv-loop μ-loop
-mul-next-mine c = search needs
-
-slice-read-next-mine : tie.Need-slice-read-next-mine Inv-loop μ-loop
-slice-read-next-mine c = search needs
-
-next-mine-requires : tie.Need-next-mine-requires Inv-loop μ-loop
-next-mine-requires c κs = search needs
-
-enum-told : tie.Need-enum-told Inv-loop μ-loop
-enum-told c = search needs
-
-same-length : tie.Need-same-length Inv-loop μ-loop
-same-length c = search needs
 
 same-length-2 : tie.Need-same-length-2 Inv-loop μ-loop
 same-length-2 c = c .before .before .before .before .before .loop .inv .0 .size
 
 returns : tie.Need-returns Inv-loop μ-loop
 returns c = absurd (place-there (c .before .before .before .before .before .before .before .before .locate .ensures) (c .before .before .before .before .before .before .before .before .before .before .before .before .before .pre) (c .before .before .before .before .before .loop .i) (c .before .before .before .before .loop-test .taken) (search needs) (gone _ _ _ _ (c .before .before .next-mine .ensures) (c .enum-told .given .1)))
-
-enum-known-start : tie.Need-enum-known-start Inv-loop μ-loop
-enum-known-start c = search needs
 
 copy-part-requires : tie.Need-copy-part-requires Inv-loop μ-loop
 copy-part-requires c κs = let m = met _ _ _ _ (c .before .before .before .before .next-mine .ensures) (c .before .before .start .given .1) in (omega arith, window-turn (c .before .before .before .before .before .before .before .before .before .before .locate .ensures) (c .before .before .before .before .before .before .before .before .before .before .before .before .before .before .before .pre) (c .before .before .before .before .before .before .before .loop .i) (c .before .before .before .before .before .before .loop-test .taken) (search needs) (c .before .before .before .before .before .before .before .loop .inv .0) m .0)
@@ -54,17 +33,8 @@ add-end c = let m = met _ _ _ _ (c .before .before .before .before .before .befo
     let g = c .before .before .before .before .before .before .before .before .before .before .before .before .before .before .before .before .before .before .good in
     omega (arith, window-turn (c .before .before .before .before .before .before .before .before .before .before .before .before .before .locate .ensures) (c .before .before .before .before .before .before .before .before .before .before .before .before .before .before .before .before .before .before .pre) (c .before .before .before .before .before .before .before .before .before .before .loop .i) (c .before .before .before .before .before .before .before .before .before .loop-test .taken) (search needs) (c .before .before .before .before .before .before .before .before .before .before .loop .inv .0) m .0, c .before .before .before .before .before .before .before .before .before .before .loop .inv .0 .size)
 
-add-i : tie.Need-add-i Inv-loop μ-loop
-add-i c = search needs
-
-loop-less : tie.Need-loop-less Inv-loop μ-loop
-loop-less c = search needs
-
 loop-again : tie.Need-loop-again Inv-loop μ-loop
 loop-again c = (window-turn (c .before .before .before .before .before .before .before .before .before .before .before .before .before .locate .ensures) (c .before .before .before .before .before .before .before .before .before .before .before .before .before .before .before .before .before .before .pre) (c .before .before .before .before .before .before .before .before .before .before .loop .i) (c .before .before .before .before .before .before .before .before .before .loop-test .taken) (search needs) (c .before .before .before .before .before .before .before .before .before .before .loop .inv .0) (met _ _ _ _ (c .before .before .before .before .before .before .before .next-mine .ensures) (c .before .before .before .before .before .start .given .1)) .1 _ (c .before .before .copy-part .ensures), omega arith)
-
-same-length-3 : tie.Need-same-length-3 Inv-loop μ-loop
-same-length-3 c = search needs
 
 same-length-4 : tie.Need-same-length-4 Inv-loop μ-loop
 same-length-4 c = c .before .loop .inv .0 .size
@@ -78,21 +48,21 @@ put-window-spec =
     (tie.spec
     Inv-loop
     μ-loop
-    locate-requires
+    (λ c κs. search needs)
     loop-holds
-    mul-next-mine
-    slice-read-next-mine
-    next-mine-requires
-    enum-told
-    same-length
+    (λ c. search needs)
+    (λ c. search needs)
+    (λ c κs. search needs)
+    (λ c. search needs)
+    (λ c. search needs)
     same-length-2
     returns
-    enum-known-start
+    (λ c. search needs)
     copy-part-requires
     add-end
-    add-i
-    loop-less
+    (λ c. search needs)
+    (λ c. search needs)
     loop-again
-    same-length-3
+    (λ c. search needs)
     same-length-4
     returns-2)

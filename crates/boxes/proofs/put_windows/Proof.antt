@@ -20,12 +20,6 @@ abbrev μ-loop : tie.MeasureT-loop
 loop-holds : tie.Need-loop-holds Inv-loop μ-loop
 loop-holds c = (joined-start _ _ (c .before .before .before .pre .1 .many) _ (c .before .before .before .pre .1 .fits), omega arith, refl)
 
-sub-lesser : tie.Need-sub-lesser Inv-loop μ-loop
-sub-lesser c = search needs
-
-lesser-requires : tie.Need-lesser-requires Inv-loop μ-loop
-lesser-requires c κs = search needs
-
 put-window-requires : tie.Need-put-window-requires Inv-loop μ-loop
 put-window-requires c κs = let t = windows-turn _ _ _ (c .before .before .lesser .result) (c .before .before .before .before .loop .inv .0) (c .before .before .lesser .ensures .0 .0) in
     let q = c .before .before .before .before .before .before .before .before .pre .1 in
@@ -61,8 +55,8 @@ put-windows-spec =
     Inv-loop
     μ-loop
     loop-holds
-    sub-lesser
-    lesser-requires
+    (λ c. search needs)
+    (λ c κs. search needs)
     put-window-requires
     add-passed
     loop-less

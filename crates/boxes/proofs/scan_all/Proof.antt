@@ -17,32 +17,14 @@ abbrev μ-loop : tie.MeasureT-loop
 loop-holds : tie.Need-loop-holds Inv-loop μ-loop
 loop-holds c = pass-start _ _ _ _
 
-next-mine-requires : tie.Need-next-mine-requires Inv-loop μ-loop
-next-mine-requires c κs = search needs
-
-enum-told : tie.Need-enum-told Inv-loop μ-loop
-enum-told c = search needs
-
 returns : tie.Need-returns Inv-loop μ-loop
 returns c = (pass-end (c .before .before .before .loop .inv) (gone _ _ _ _ (c .before .before .next-mine .ensures) (c .enum-told .given .1)), c .before .before .before .loop .inv .few)
-
-enum-known-head : tie.Need-enum-known-head Inv-loop μ-loop
-enum-known-head c = search needs
 
 add-n : tie.Need-add-n Inv-loop μ-loop
 add-n c = let m = met _ _ _ _ (c .before .before .before .next-mine .ensures) (c .before .head .given .1) in omega arith
 
 add-total : tie.Need-add-total Inv-loop μ-loop
 add-total c = let m = met _ _ _ _ (c .before .before .before .next-mine .ensures) (c .before .head .given .1) in omega arith
-
-alike-requires : tie.Need-alike-requires Inv-loop μ-loop
-alike-requires c κs = search needs
-
-cast-also : tie.Need-cast-also Inv-loop μ-loop
-cast-also c = search needs
-
-also-requires : tie.Need-also-requires Inv-loop μ-loop
-also-requires c κs = search needs
 
 loop-less : tie.Need-loop-less Inv-loop μ-loop
 loop-less c = let m = met _ _ _ _ (c .before .before .before .before .before .before .next-mine .ensures) (c .before .before .before .before .head .given .1) in omega arith
@@ -57,14 +39,14 @@ scan-all-spec =
     Inv-loop
     μ-loop
     loop-holds
-    next-mine-requires
-    enum-told
+    (λ c κs. search needs)
+    (λ c. search needs)
     returns
-    enum-known-head
+    (λ c. search needs)
     add-n
     add-total
-    alike-requires
-    cast-also
-    also-requires
+    (λ c κs. search needs)
+    (λ c. search needs)
+    (λ c κs. search needs)
     loop-less
     loop-again)

@@ -1,7 +1,6 @@
 -- `codes::all_distinct` meets its contract: what is left to look at has the answer of the whole. Assumes nothing.
 use mathlib.Core.Path.{_≡_, refl, sym, _∙_}
 use Prim.Native.Nat.{_-_}
-use native.Mathlib.Omega.{arith}
 use lib.ListN.{length, drop}
 use Rattle.codes.specs.Table.{distinct}
 use Rattle.codes.proofs.Laws.{distinct-end, distinct-no, distinct-on}
@@ -18,23 +17,8 @@ abbrev μ-loop : tie.MeasureT-loop
 loop-holds : tie.Need-loop-holds Inv-loop μ-loop
 loop-holds c = refl
 
-add-holds-from : tie.Need-add-holds-from Inv-loop μ-loop
-add-holds-from c = search needs
-
-shared-slice-read-holds-from : tie.Need-shared-slice-read-holds-from Inv-loop μ-loop
-shared-slice-read-holds-from c = search needs
-
-holds-from-requires : tie.Need-holds-from-requires Inv-loop μ-loop
-holds-from-requires c κs = search needs
-
 returns : tie.Need-returns Inv-loop μ-loop
 returns c = sym (distinct-no _ _ (c .before .before .before .loop-test .taken) (sym (c .before .holds-from .ensures) ∙ c .if1 .taken)) ∙ c .before .before .before .before .loop .inv
-
-add-i : tie.Need-add-i Inv-loop μ-loop
-add-i c = search needs
-
-loop-less : tie.Need-loop-less Inv-loop μ-loop
-loop-less c = search needs
 
 loop-again : tie.Need-loop-again Inv-loop μ-loop
 loop-again c = sym (distinct-on _ _ (c .before .before .before .loop-test .taken) (sym (c .before .holds-from .ensures) ∙ c .if1 .left)) ∙ c .before .before .before .before .loop .inv
@@ -49,11 +33,11 @@ all-distinct-spec =
     Inv-loop
     μ-loop
     loop-holds
-    add-holds-from
-    shared-slice-read-holds-from
-    holds-from-requires
+    (λ c. search needs)
+    (λ c. search needs)
+    (λ c κs. search needs)
     returns
-    add-i
-    loop-less
+    (λ c. search needs)
+    (λ c. search needs)
     loop-again
     returns-2)

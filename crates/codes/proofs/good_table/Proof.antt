@@ -1,5 +1,5 @@
 -- `codes::good_table` meets its contract: the tests in their order. Assumes nothing.
-use mathlib.Core.Path.{_≡_, sym, _∙_}
+use mathlib.Core.Path.{sym, _∙_}
 use Rattle.laws.specs.Index.{every}
 use borrow.Author.Tests.{eq-eqb, ne-eqb, le-leb, lt-leb}
 use Rattle.codes.specs.Table.{goodTable}
@@ -20,26 +20,17 @@ returns-3 : tie.Need-returns-3
 unfolding goodTable every
 returns-3 c = rw (eq-eqb _ _ (c .before .before .if1 .left), le-leb _ _ (c .before .if2 .left), lt-leb _ _ (c .if3 .taken))
 
-total-of-requires : tie.Need-total-of-requires
-total-of-requires c κs = search needs
-
 returns-4 : tie.Need-returns-4
 unfolding goodTable every
 returns-4 c =
     let b = c .before .before in
     rw (eq-eqb _ _ (b .before .before .if1 .left), le-leb _ _ (b .before .if2 .left), le-leb _ _ (b .if3 .left), ← (c .before .total-of .ensures), ne-eqb _ _ (c .if4 .taken))
 
-kraft-of-requires : tie.Need-kraft-of-requires
-kraft-of-requires c κs = search needs
-
 returns-5 : tie.Need-returns-5
 unfolding goodTable every
 returns-5 c =
     let b = c .before .before .before .before in
     rw (eq-eqb _ _ (b .before .before .if1 .left), le-leb _ _ (b .before .if2 .left), le-leb _ _ (b .if3 .left), ← (c .before .before .before .total-of .ensures), eq-eqb _ _ (c .before .before .if4 .left), ← (c .before .kraft-of .ensures), lt-leb _ _ (c .if5 .taken))
-
-all-distinct-requires : tie.Need-all-distinct-requires
-all-distinct-requires c κs = search needs
 
 returns-6 : tie.Need-returns-6
 unfolding goodTable every
@@ -55,9 +46,9 @@ good-table-spec =
     returns
     returns-2
     returns-3
-    total-of-requires
+    (λ c κs. search needs)
     returns-4
-    kraft-of-requires
+    (λ c κs. search needs)
     returns-5
-    all-distinct-requires
+    (λ c κs. search needs)
     returns-6)

@@ -1,6 +1,4 @@
 -- `codes::put_code` meets its contract. Assumes nothing.
-use mathlib.Core.Path.{_≡_, subst}
-use Rattle.bits.specs.Code.{Puts}
 use Rattle.codes.specs.Table.{table}
 use Rattle.codes.proofs.Laws.{good}
 use native.Mathlib.Omega.{arith}
@@ -17,11 +15,8 @@ code-at-requires c κs =
 put-digits-requires : tie.Need-put-digits-requires
 put-digits-requires c κs = (c .before .before .before .before .before .pre .0, (c .before .before .before .before .before .pre .1 .0, c .before .code-at .ensures .short))
 
-same-length : tie.Need-same-length
-same-length c = search needs
-
 returns : tie.Need-returns
 returns c = rw (← (c .before .before .before .before .code-at .ensures .same)) (c .before .before .put-digits .ensures)
 
 pub put-code-spec : {M : Type 1} → statement M
-put-code-spec = tie.close (tie.spec code-at-requires put-digits-requires same-length returns)
+put-code-spec = tie.close (tie.spec code-at-requires put-digits-requires (λ c. search needs) returns)

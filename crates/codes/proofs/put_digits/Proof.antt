@@ -19,23 +19,11 @@ abbrev μ-loop : tie.MeasureT-loop
 loop-holds : tie.Need-loop-holds Inv-loop μ-loop
 loop-holds c = (c .before .pre .1 .1, refl, going-start (c .before .pre .0))
 
-sub-left : tie.Need-sub-left Inv-loop μ-loop
-sub-left c = search needs
-
-cast-put-bit : tie.Need-cast-put-bit Inv-loop μ-loop
-cast-put-bit c = search needs
-
-shr-put-bit : tie.Need-shr-put-bit Inv-loop μ-loop
-shr-put-bit c = search needs
-
 put-bit-requires : tie.Need-put-bit-requires Inv-loop μ-loop
 put-bit-requires c κs =
     let v = c .before .before .loop in
     let a = c .before .before .before .before in
     (v .inv .2 .sound, omega (arith, v .inv .2 .near, digits-length (a .args .size) (a .args .number), a .pre .1 .0, a .pre .1 .1))
-
-loop-less : tie.Need-loop-less Inv-loop μ-loop
-loop-less c = search needs
 
 loop-again : tie.Need-loop-again Inv-loop μ-loop
 loop-again c =
@@ -56,11 +44,11 @@ put-digits-spec =
     Inv-loop
     μ-loop
     loop-holds
-    sub-left
-    cast-put-bit
-    shr-put-bit
+    (λ c. search needs)
+    (λ c. search needs)
+    (λ c. search needs)
     put-bit-requires
-    loop-less
+    (λ c. search needs)
     loop-again
     same-length
     returns)

@@ -1,8 +1,7 @@
 -- `codes::take_code` meets its contract: what is left to read gives what the whole gives. Assumes nothing.
 use mathlib.Core.Path.{_≡_, sym, ap, _∙_}
-use Prim.Native.Nat.{_+_, _-_, _*_, _<_}
+use Prim.Native.Nat.{_-_}
 use lib.ListN.{length}
-use Rattle.bits.specs.Digits.{bin}
 use Rattle.bits.specs.Source.{got, takeBit}
 use Rattle.bits.specs.Code.{sourceOf, takenOf}
 use Rattle.codes.specs.Table.{table}
@@ -22,12 +21,6 @@ abbrev μ-loop : tie.MeasureT-loop
 loop-holds : tie.Need-loop-holds Inv-loop μ-loop
 loop-holds c = here-first _ (c .before .before .before .pre) _
 
-take-bit-requires : tie.Need-take-bit-requires Inv-loop μ-loop
-take-bit-requires c κs = search needs
-
-enum-known-t : tie.Need-enum-known-t Inv-loop μ-loop
-enum-known-t c = search needs
-
 -- what the code learns of the bit that it took
 took : (c : tie.After-t Inv-loop μ-loop)
     → takeBit (sourceOf (c .before .before .before .before .before .before .before .before .args .«data» .now) (c .before .before .before .before .loop .cursor)) ≡ got (c .t .given .0 .0) (sourceOf (c .before .before .before .before .before .before .before .before .args .«data» .now) (c .t .given .0 .1 .0))
@@ -37,31 +30,16 @@ took c = sym (c .before .before .take-bit .ensures) ∙ ap (takenOf _) (c .t .gi
 mul-over : tie.Need-mul-over Inv-loop μ-loop
 mul-over c = omega (arith, here-small (c .before .before .before .before .before .loop .inv) (c .before .before .before .before .before .before .before .before .before .pre) (c .before .before .before .before .loop-test .taken))
 
-cast-over : tie.Need-cast-over Inv-loop μ-loop
-cast-over c = search needs
-
 add-over : tie.Need-add-over Inv-loop μ-loop
 add-over c = omega (arith, bin-small (c .before .t .given .0 .0), here-small (c .before .before .before .before .before .loop .inv) (c .before .before .before .before .before .before .before .before .before .pre) (c .before .before .before .before .loop-test .taken))
-
-enum-told : tie.Need-enum-told Inv-loop μ-loop
-enum-told c = search needs
 
 returns : tie.Need-returns Inv-loop μ-loop
 unfolding codedOf takenOf
 returns c = here-stopped (c .before .before .before .before .loop .inv) (c .before .before .before .loop-test .taken) (sym (c .before .before .take-bit .ensures) ∙ ap (takenOf _) (c .enum-told .given .1))
 
-enum-told-2 : tie.Need-enum-told-2 Inv-loop μ-loop
-enum-told-2 c = search needs
-
 returns-2 : tie.Need-returns-2 Inv-loop μ-loop
 unfolding codedOf takenOf
 returns-2 c = here-stopped (c .before .before .before .before .loop .inv) (c .before .before .before .loop-test .taken) (sym (c .before .before .take-bit .ensures) ∙ ap (takenOf _) (c .enum-told2 .given .1))
-
-shared-slice-read-wide : tie.Need-shared-slice-read-wide Inv-loop μ-loop
-shared-slice-read-wide c = search needs
-
-wide-requires : tie.Need-wide-requires Inv-loop μ-loop
-wide-requires c κs = search needs
 
 add-t21 : tie.Need-add-t21 Inv-loop μ-loop
 add-t21 c =
@@ -79,15 +57,6 @@ returns-3 c =
     let b = c .before .before .before .before .before .before .before .before .before in
     here-found (b .loop .inv) (c .before .before .before .before .before .before .before .before .loop-test .taken) (took (c .before .before .before .before .before)) (rw (c .before .before .wide .ensures .0) at (c .before .if1 .taken))
 
-add-place : tie.Need-add-place Inv-loop μ-loop
-add-place c = search needs
-
-add-l : tie.Need-add-l Inv-loop μ-loop
-add-l c = search needs
-
-loop-less : tie.Need-loop-less Inv-loop μ-loop
-loop-less c = search needs
-
 loop-again : tie.Need-loop-again Inv-loop μ-loop
 loop-again c =
     let b = c .before .before .before .before .before .before .before .before in
@@ -104,22 +73,22 @@ take-code-spec =
     Inv-loop
     μ-loop
     loop-holds
-    take-bit-requires
-    enum-known-t
+    (λ c κs. search needs)
+    (λ c. search needs)
     mul-over
-    cast-over
+    (λ c. search needs)
     add-over
-    enum-told
+    (λ c. search needs)
     returns
-    enum-told-2
+    (λ c. search needs)
     returns-2
-    shared-slice-read-wide
-    wide-requires
+    (λ c. search needs)
+    (λ c κs. search needs)
     add-t21
     shared-slice-read-t23
     returns-3
-    add-place
-    add-l
-    loop-less
+    (λ c. search needs)
+    (λ c. search needs)
+    (λ c. search needs)
     loop-again
     returns-4)

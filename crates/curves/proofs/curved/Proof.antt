@@ -10,39 +10,15 @@ use Rattle.curves.proofs.Laws.{in-table, in-srgb}
 use Rattle.curves.proofs.curved.Statement.{statement}
 use Rattle.curves.proofs.curved.Tie as tie
 
-enum-told : tie.Need-enum-told
-enum-told c = search needs
-
-straight-requires : tie.Need-straight-requires
-straight-requires c κs = search needs
-
-enum-told-2 : tie.Need-enum-told-2
-enum-told-2 c = search needs
-
 entry-requires : tie.Need-entry-requires
 entry-requires c κs =
     let s = c .before .before .before in
     in-table (s .pre .1) (s .args .x) (s .pre .0 .1 .1) (s .pre .0 .1 .0) (c .enum-told2 .given .1)
 
-cast-wide-count : tie.Need-cast-wide-count
-cast-wide-count c = search needs
-
-wide-count-requires : tie.Need-wide-count-requires
-wide-count-requires c κs = search needs
-
-enum-told-3 : tie.Need-enum-told-3
-enum-told-3 c = search needs
-
 srgb-requires : tie.Need-srgb-requires
 srgb-requires c κs =
     let s = c .before .before .before in
     in-srgb (s .pre .1) (s .args .x) (s .pre .0 .1 .1) (c .enum-told3 .given .1)
-
-cast-wide-count-2 : tie.Need-cast-wide-count-2
-cast-wide-count-2 c = search needs
-
-wide-count-requires-2 : tie.Need-wide-count-requires-2
-wide-count-requires-2 c κs = search needs
 
 returns : tie.Need-returns
 unfolding curved
@@ -66,16 +42,16 @@ pub curved-spec : {M : Type 1} → statement M
 curved-spec =
     tie.close
     (tie.spec
-    enum-told
-    straight-requires
-    enum-told-2
+    (λ c. search needs)
+    (λ c κs. search needs)
+    (λ c. search needs)
     entry-requires
-    cast-wide-count
-    wide-count-requires
-    enum-told-3
+    (λ c. search needs)
+    (λ c κs. search needs)
+    (λ c. search needs)
     srgb-requires
-    cast-wide-count-2
-    wide-count-requires-2
+    (λ c. search needs)
+    (λ c κs. search needs)
     returns
     returns-2
     returns-3)

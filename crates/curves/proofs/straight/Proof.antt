@@ -14,17 +14,8 @@ use Rattle.curves.proofs.Laws.{product-below}
 use Rattle.curves.proofs.straight.Statement.{statement}
 use Rattle.curves.proofs.straight.Tie as tie
 
-top-of-requires : tie.Need-top-of-requires
-top-of-requires c κs = search needs
-
 mul-product : tie.Need-mul-product
 mul-product c = record { fits = omega (arith, product-below (c .before .args .x) (c .top-of .result) (c .before .fits .x .fits) (c .top-of .ensures .1)) }
-
-wide-count-requires : tie.Need-wide-count-requires
-wide-count-requires c κs = search needs
-
-top-of-requires-2 : tie.Need-top-of-requires-2
-top-of-requires-2 c κs = search needs
 
 module _ (c : tie.After-top-of2) where
   start : tie.Start
@@ -57,9 +48,9 @@ pub straight-spec : {M : Type 1} → statement M
 straight-spec =
     tie.close
     (tie.spec
-    top-of-requires
+    (λ c κs. search needs)
     mul-product
-    wide-count-requires
-    top-of-requires-2
+    (λ c κs. search needs)
+    (λ c κs. search needs)
     nearest-requires
     returns)

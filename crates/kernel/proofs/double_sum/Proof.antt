@@ -24,9 +24,6 @@ abbrev μ-loop : tie.MeasureT-loop
 loop-holds : tie.Need-loop-holds Inv-loop μ-loop
 loop-holds c = (search needs, sym (sum-none _))
 
-row-sum-requires : tie.Need-row-sum-requires Inv-loop μ-loop
-row-sum-requires c κs = search needs
-
 more : (c : tie.After-row-sum Inv-loop μ-loop)
     → (let a = c .before .before .before .args in toZ w64 (c .before .before .loop .sum) +ℤ toZ w64 (ofZ w64 (c .row-sum .result)) ≡ sumTo (c .before .before .loop .v + 1) (rowSum (a .s .now) (a .x) (a .y)))
 more c = sum-turn _ _ (c .before .before .loop .inv .1) (back w64 (c .row-sum .result) (c .row-sum .ok) ∙ c .row-sum .ensures)
@@ -37,12 +34,6 @@ add-sum c =
     let p = c .before .before .before .pre in
     let v : c .before .before .loop .v + 1 ≤ 8 = omega arith in
     rw (more c) (fit-in w64 tt (rows-small (a .s .now) (p .0 .1) (a .x) (a .y) (p .1 .0) (p .1 .1) _ v))
-
-add-v : tie.Need-add-v Inv-loop μ-loop
-add-v c = search needs
-
-loop-less : tie.Need-loop-less Inv-loop μ-loop
-loop-less c = search needs
 
 loop-again : tie.Need-loop-again Inv-loop μ-loop
 loop-again c = (search needs, toZ-ofZ (add-sum c) ∙ more c)
@@ -58,9 +49,9 @@ double-sum-spec =
     Inv-loop
     μ-loop
     loop-holds
-    row-sum-requires
+    (λ c κs. search needs)
     add-sum
-    add-v
-    loop-less
+    (λ c. search needs)
+    (λ c. search needs)
     loop-again
     returns)

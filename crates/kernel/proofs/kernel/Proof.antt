@@ -11,15 +11,6 @@ use Rattle.kernel.proofs.Tables.{table-long, kernel-at}
 use Rattle.kernel.proofs.kernel.Statement.{statement}
 use Rattle.kernel.proofs.kernel.Tie as tie
 
-mul-i : tie.Need-mul-i
-mul-i c = search needs
-
-add-i : tie.Need-add-i
-add-i c = search needs
-
-mul-result : tie.Need-mul-result
-mul-result c = search needs
-
 shared-slice-copy-out-result : tie.Need-shared-slice-copy-out-result
 shared-slice-copy-out-result c = omega (arith, ap length (c .pre .0), table-long)
 
@@ -32,4 +23,4 @@ returns c =
     ∙ kernel-at (a .x) (a .u) (k .pre .1 .0) (k .pre .1 .1)
 
 pub kernel-spec : {M : Type 1} → statement M
-kernel-spec = tie.close (tie.spec mul-i add-i mul-result shared-slice-copy-out-result returns)
+kernel-spec = tie.close (tie.spec (λ c. search needs) (λ c. search needs) (λ c. search needs) shared-slice-copy-out-result returns)

@@ -12,18 +12,6 @@ use Rattle.kernel.proofs.Bounds.{factors-small, product-small}
 use Rattle.kernel.proofs.product.Statement.{statement}
 use Rattle.kernel.proofs.product.Tie as tie
 
-mul-i : tie.Need-mul-i
-mul-i c = search needs
-
-add-i : tie.Need-add-i
-add-i c = search needs
-
-kernel-requires : tie.Need-kernel-requires
-kernel-requires c κs = search needs
-
-kernel-requires-2 : tie.Need-kernel-requires-2
-kernel-requires-2 c κs = search needs
-
 factors-fit : (c : tie.After-kernel2) → SFits w64 (c .before .kernel .result *ℤ c .kernel2 .result)
 factors-fit c =
     let a = c .before .before .args in
@@ -32,12 +20,6 @@ factors-fit c =
 
 mul-result : tie.Need-mul-result
 mul-result c = let f = factors-fit c in search needs
-
-mul-result-2 : tie.Need-mul-result-2
-mul-result-2 c = search needs
-
-shared-slice-copy-out-result : tie.Need-shared-slice-copy-out-result
-shared-slice-copy-out-result c = search needs
 
 module _ (c : tie.After-result) where
   abbrev whole : ℤ
@@ -63,12 +45,12 @@ pub product-spec : {M : Type 1} → statement M
 product-spec =
     tie.close
     (tie.spec
-    mul-i
-    add-i
-    kernel-requires
-    kernel-requires-2
+    (λ c. search needs)
+    (λ c. search needs)
+    (λ c κs. search needs)
+    (λ c κs. search needs)
     mul-result
-    mul-result-2
-    shared-slice-copy-out-result
+    (λ c. search needs)
+    (λ c. search needs)
     mul-result-3
     returns)

@@ -11,9 +11,6 @@ use Rattle.kernel.proofs.Bounds.{added-small, floor-small, rounded-smal
 use Rattle.kernel.proofs.rounded.Statement.{statement}
 use Rattle.kernel.proofs.rounded.Tie as tie
 
-half-requires : tie.Need-half-requires
-half-requires c κs = search needs
-
 module _ (c : tie.After-half) where
   added : SFits w64 (c .before .args .sum +ℤ c .half .result)
   added = rw (c .half .ensures) (fit-in w64 tt (added-small (c .before .args .sum) (c .before .pre .0)))
@@ -38,4 +35,4 @@ unfolding rounded
 returns c = rw (toZ-ofZ (c .before .fits .sum), back w64 (c .half .result) (c .half .ok), toZ-ofZ (added c), toZ-ofZ (floored c), toZ-ofZ (c .before .fits .centre), toZ-ofZ (to64 (centred c)), toZ-ofZ (centred c), c .half .ensures)
 
 pub rounded-spec : {M : Type 1} → statement M
-rounded-spec = tie.close (tie.spec half-requires add-result add-result-2 cast-result returns)
+rounded-spec = tie.close (tie.spec (λ c κs. search needs) add-result add-result-2 cast-result returns)

@@ -24,9 +24,6 @@ abbrev μ-loop : tie.MeasureT-loop
 loop-holds : tie.Need-loop-holds Inv-loop μ-loop
 loop-holds c = (search needs, sym (sum-none _))
 
-product-requires : tie.Need-product-requires Inv-loop μ-loop
-product-requires c κs = search needs
-
 more : (c : tie.After-product Inv-loop μ-loop)
     → (let a = c .before .before .before .args in toZ w64 (c .before .before .loop .sum) +ℤ toZ w64 (ofZ w64 (c .product .result)) ≡ sumTo (c .before .before .loop .u + 1) (product (a .s .now) (a .x) (a .y) (a .v)))
 more c = sum-turn _ _ (c .before .before .loop .inv .1) (back w64 (c .product .result) (c .product .ok) ∙ c .product .ensures)
@@ -37,12 +34,6 @@ add-sum c =
     let p = c .before .before .before .pre in
     let u : c .before .before .loop .u + 1 ≤ 8 = omega arith in
     rw (more c) (fit-in w64 tt (row-small (a .s .now) (p .0 .1) (a .x) (a .y) (p .1 .0) (p .1 .1 .0) (a .v) _ (p .1 .1 .1) u))
-
-add-u : tie.Need-add-u Inv-loop μ-loop
-add-u c = search needs
-
-loop-less : tie.Need-loop-less Inv-loop μ-loop
-loop-less c = search needs
 
 loop-again : tie.Need-loop-again Inv-loop μ-loop
 loop-again c = (search needs, toZ-ofZ (add-sum c) ∙ more c)
@@ -58,9 +49,9 @@ row-sum-spec =
     Inv-loop
     μ-loop
     loop-holds
-    product-requires
+    (λ c κs. search needs)
     add-sum
-    add-u
-    loop-less
+    (λ c. search needs)
+    (λ c. search needs)
     loop-again
     returns)

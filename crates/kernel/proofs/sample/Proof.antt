@@ -9,9 +9,6 @@ use Rattle.kernel.proofs.Bounds.{double-small}
 use Rattle.kernel.proofs.sample.Statement.{statement}
 use Rattle.kernel.proofs.sample.Tie as tie
 
-double-sum-requires : tie.Need-double-sum-requires
-double-sum-requires c κs = search needs
-
 rounded-requires : tie.Need-rounded-requires
 rounded-requires c κs =
     let a = c .before .args in
@@ -23,4 +20,4 @@ unfolding sample
 returns c = back w32 (c .rounded .result) (c .rounded .ok) ∙ c .rounded .ensures ∙ rw (back w64 (c .before .double-sum .result) (c .before .double-sum .ok), c .before .double-sum .ensures, toZ-ofZ (c .before .before .fits .centre))
 
 pub sample-spec : {M : Type 1} → statement M
-sample-spec = tie.close (tie.spec double-sum-requires rounded-requires returns)
+sample-spec = tie.close (tie.spec (λ c κs. search needs) rounded-requires returns)

@@ -36,20 +36,8 @@ long c =
 sample-requires : tie.Need-sample-requires Inv-loop μ-loop
 sample-requires c κs = let q = c .before .before .pre in rw (toZ-ofZ (c .before .before .fits .centre)) (q .0, (q .1 .0, (omega arith, omega arith)))
 
-add-w : tie.Need-add-w Inv-loop μ-loop
-add-w c = search needs
-
-mul-w : tie.Need-mul-w Inv-loop μ-loop
-mul-w c = search needs
-
 slice-set-from-w : tie.Need-slice-set-from-w Inv-loop μ-loop
 slice-set-from-w c = omega (arith, long (c .before .before))
-
-add-p : tie.Need-add-p Inv-loop μ-loop
-add-p c = search needs
-
-loop-less : tie.Need-loop-less Inv-loop μ-loop
-loop-less c = search needs
 
 loop-again : tie.Need-loop-again Inv-loop μ-loop
 loop-again c =
@@ -75,11 +63,11 @@ write-samples-spec =
     μ-loop
     loop-holds
     sample-requires
-    add-w
-    mul-w
+    (λ c. search needs)
+    (λ c. search needs)
     slice-set-from-w
-    add-p
-    loop-less
+    (λ c. search needs)
+    (λ c. search needs)
     loop-again
     same-length
     returns)

@@ -12,9 +12,6 @@ use borrow.Author.Needs.{needs}
 use Rattle.levels.proofs.in_level.Statement.{statement}
 use Rattle.levels.proofs.in_level.Tie as tie
 
-above-requires : tie.Need-above-requires
-above-requires c κs = search needs
-
 -- the first test, of the numbers themselves
 tested : (c : tie.After-above) → leZ (toZ w32 (ofZ w32 (c .above .result))) (toZ w32 (ofZ w32 (c .before .args .value))) ≡ leZ (pos (2 ^ (11 + c .before .args .level))) (c .before .args .value)
 tested c = rw (toZ-ofZ (c .before .fits .value), back w32 (c .above .result) (c .above .ok), c .above .ensures)
@@ -22,17 +19,11 @@ tested c = rw (toZ-ofZ (c .before .fits .value), back w32 (c .above .result) (c 
 returns : tie.Need-returns
 returns c = sym (too-high (c .before .before .args .level) (c .before .before .args .value) (c .before .before .args .dc) (sym (tested (c .before)) ∙ c .if1 .taken))
 
-lowest-requires : tie.Need-lowest-requires
-lowest-requires c κs = search needs
-
 returns-2 : tie.Need-returns-2
 returns-2 c =
     let a = c .before .before .before in
     rw (toZ-ofZ (a .before .fits .value), back w32 (c .lowest .result) (c .lowest .ok), c .lowest .ensures, c .before .if2 .taken)
     (dc-test (a .before .args .level) (a .before .args .value) (sym (tested a) ∙ c .before .before .if1 .left))
-
-lowest-requires-2 : tie.Need-lowest-requires-2
-lowest-requires-2 c κs = search needs
 
 returns-3 : tie.Need-returns-3
 returns-3 c =
@@ -43,4 +34,4 @@ returns-3 c =
 pub in-level-spec : {M : Type 1} → statement M
 in-level-spec =
     tie.close
-    (tie.spec above-requires returns lowest-requires returns-2 lowest-requires-2 returns-3)
+    (tie.spec (λ c κs. search needs) returns (λ c κs. search needs) returns-2 (λ c κs. search needs) returns-3)

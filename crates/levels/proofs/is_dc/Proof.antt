@@ -4,15 +4,6 @@ use borrow.Author.Needs.{needs}
 use Rattle.levels.proofs.is_dc.Statement.{statement}
 use Rattle.levels.proofs.is_dc.Tie as tie
 
-enum-told : tie.Need-enum-told
-enum-told c = search needs
-
-enum-told-2 : tie.Need-enum-told-2
-enum-told-2 c = search needs
-
-enum-told-3 : tie.Need-enum-told-3
-enum-told-3 c = search needs
-
 returns : tie.Need-returns
 unfolding isDc
 returns c = rw (c .enum-told .given .1)
@@ -26,4 +17,4 @@ unfolding isDc
 returns-3 c = rw (c .enum-told3 .given .1)
 
 pub is-dc-spec : {M : Type 1} → statement M
-is-dc-spec = tie.close (tie.spec enum-told enum-told-2 enum-told-3 returns returns-2 returns-3)
+is-dc-spec = tie.close (tie.spec (λ c. search needs) (λ c. search needs) (λ c. search needs) returns returns-2 returns-3)

@@ -21,29 +21,17 @@ abbrev μ-loop : tie.MeasureT-loop
 loop-holds : tie.Need-loop-holds Inv-loop μ-loop
 loop-holds c = (going-start _ _ _, omega arith, omega arith)
 
-step-at-requires : tie.Need-step-at-requires Inv-loop μ-loop
-step-at-requires c κs = search needs
-
-enum-told : tie.Need-enum-told Inv-loop μ-loop
-enum-told c = search needs
-
 same-length : tie.Need-same-length Inv-loop μ-loop
 same-length c = c .before .before .before .loop .inv .0 .size
 
 returns : tie.Need-returns Inv-loop μ-loop
 returns c = (going-done (c .before .before .before .loop .inv .0) (lines-end _ _ (sym (c .before .before .step-at .ensures) ∙ c .enum-told .given .1)), omega arith)
 
-enum-told-2 : tie.Need-enum-told-2 Inv-loop μ-loop
-enum-told-2 c = search needs
-
 same-length-2 : tie.Need-same-length-2 Inv-loop μ-loop
 same-length-2 c = c .before .before .before .loop .inv .0 .size
 
 returns-2 : tie.Need-returns-2 Inv-loop μ-loop
 returns-2 c = (going-done (c .before .before .before .loop .inv .0) (lines-broken _ _ (sym (c .before .before .step-at .ensures) ∙ c .enum-told2 .given .1)), omega arith)
-
-enum-known-next : tie.Need-enum-known-next Inv-loop μ-loop
-enum-known-next c = search needs
 
 loop-less : tie.Need-loop-less Inv-loop μ-loop
 loop-less c = omega (arith, forward-skip _ _ (sym (c .before .before .before .step-at .ensures) ∙ c .before .next .given .1))
@@ -52,9 +40,6 @@ loop-again : tie.Need-loop-again Inv-loop μ-loop
 loop-again c = let e = sym (c .before .before .before .step-at .ensures) ∙ c .before .next .given .1 in
     let f = forward-skip _ _ e in
     (going-same (c .before .before .before .before .loop .inv .0) (lines-skip _ _ e), omega arith, omega arith)
-
-enum-known-head : tie.Need-enum-known-head Inv-loop μ-loop
-enum-known-head c = search needs
 
 put-line-requires : tie.Need-put-line-requires Inv-loop μ-loop
 put-line-requires c κs = let f = forward-meet _ _ (sym (c .before .before .before .before .step-at .ensures) ∙ c .before .before .head .given .1) in omega arith
@@ -74,17 +59,17 @@ put-lines-spec =
     Inv-loop
     μ-loop
     loop-holds
-    step-at-requires
-    enum-told
+    (λ c κs. search needs)
+    (λ c. search needs)
     same-length
     returns
-    enum-told-2
+    (λ c. search needs)
     same-length-2
     returns-2
-    enum-known-next
+    (λ c. search needs)
     loop-less
     loop-again
-    enum-known-head
+    (λ c. search needs)
     put-line-requires
     loop-less-2
     loop-again-2)

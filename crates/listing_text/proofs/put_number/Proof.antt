@@ -8,11 +8,8 @@ use Rattle.listing_text.proofs.put_number.Tie as tie
 put-dec-requires : tie.Need-put-dec-requires
 put-dec-requires c κs = omega (arith, dec-length (c .before .before .args .n) (c .before .before .fits .n .fits))
 
-same-length : tie.Need-same-length
-same-length c = search needs
-
 returns : tie.Need-returns
 returns c = (c .before .before .put-dec .ensures, omega (arith, c .before .before .put-dec .ensures .next, dec-length (c .before .before .before .before .before .args .n) (c .before .before .before .before .before .fits .n .fits)))
 
 pub put-number-spec : {M : Type 1} → statement M
-put-number-spec = tie.close (tie.spec put-dec-requires same-length returns)
+put-number-spec = tie.close (tie.spec put-dec-requires (λ c. search needs) returns)

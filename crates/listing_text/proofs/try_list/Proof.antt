@@ -7,20 +7,8 @@ use borrow.Author.Needs.{needs}
 use Rattle.listing_text.proofs.try_list.Statement.{statement}
 use Rattle.listing_text.proofs.try_list.Tie as tie
 
-put-listing-requires : tie.Need-put-listing-requires
-put-listing-requires c κs = search needs
-
-refuse-requires : tie.Need-refuse-requires
-refuse-requires c κs = search needs
-
-same-length : tie.Need-same-length
-same-length c = search needs
-
 returns : tie.Need-returns
 returns c = tried-refused (c .refuse .ensures) (listed-short _ (c .before .before .before .before .put-listing .ensures) (c .before .if1 .taken))
-
-same-length-2 : tie.Need-same-length-2
-same-length-2 c = search needs
 
 returns-2 : tie.Need-returns-2
 returns-2 c = let e = listed-fits _ (c .before .before .before .put-listing .ensures) (c .if1 .left) in tried-given (ap Given (e .1)) (e .0) (e .2)
@@ -28,4 +16,4 @@ returns-2 c = let e = listed-fits _ (c .before .before .before .put-listing .ens
 pub try-list-spec : {M : Type 1} → statement M
 try-list-spec =
     tie.close
-    (tie.spec put-listing-requires refuse-requires same-length returns same-length-2 returns-2)
+    (tie.spec (λ c κs. search needs) (λ c κs. search needs) (λ c. search needs) returns (λ c. search needs) returns-2)

@@ -24,12 +24,6 @@ mul-destination c = omega (arith, c .before .before .before .before .before .pre
 slice-write-destination : tie.Need-slice-write-destination Inv-loop μ-loop
 slice-write-destination c = omega (arith, c .before .before .loop .inv .spread .long, c .before .before .before .before .before .pre .1 .1, ap (λ k. k * c .before .before .before .before .before .args .pixels) (c .before .before .before .before .before .pre .1 .0))
 
-add-p : tie.Need-add-p Inv-loop μ-loop
-add-p c = omega arith
-
-loop-less : tie.Need-loop-less Inv-loop μ-loop
-loop-less c = omega arith
-
 loop-again : tie.Need-loop-again Inv-loop μ-loop
 loop-again c = filling-one _ _ _ _ _ _ (c .before .before .loop .inv) (c .before .before .before .before .before .pre .1 .1) (c .before .before .before .before .before .pre .1 .0) (c .before .loop-test .taken) (c .one-at .result) (c .one-at .ensures)
 
@@ -49,8 +43,8 @@ fill-one-spec =
     one-at-requires
     mul-destination
     slice-write-destination
-    add-p
-    loop-less
+    (λ c. omega arith)
+    (λ c. omega arith)
     loop-again
     same-length
     returns)

@@ -52,12 +52,6 @@ mul-destination-3 c = omega (arith, c .before .before .before .before .before .p
 slice-write-destination-3 : tie.Need-slice-write-destination-3 Inv-loop μ-loop
 slice-write-destination-3 c = let h = roomy c in simp length-set (omega arith)
 
-add-p : tie.Need-add-p Inv-loop μ-loop
-add-p c = omega arith
-
-loop-less : tie.Need-loop-less Inv-loop μ-loop
-loop-less c = omega arith
-
 loop-again : tie.Need-loop-again Inv-loop μ-loop
 loop-again c = filling-three _ _ _ _ _ _ (c .before .before .loop .inv) (c .before .before .before .before .before .pre .1 .1) (c .before .before .before .before .before .pre .1 .0) (c .before .loop-test .taken) (c .three-at .result .first) (c .three-at .result .second) (c .three-at .result .third) (c .three-at .ensures)
 
@@ -84,8 +78,8 @@ fill-three-spec =
     slice-write-destination-2
     mul-destination-3
     slice-write-destination-3
-    add-p
-    loop-less
+    (λ c. omega arith)
+    (λ c. omega arith)
     loop-again
     same-length
     returns)

@@ -13,36 +13,15 @@ use Rattle.merge.proofs.Laws.{in-one, one-alone, one-added}
 use Rattle.merge.proofs.one_at.Statement.{statement}
 use Rattle.merge.proofs.one_at.Tie as tie
 
-mul-basis-one : tie.Need-mul-basis-one
-mul-basis-one c = search needs
-
 shared-slice-copy-out-basis-one : tie.Need-shared-slice-copy-out-basis-one
 shared-slice-copy-out-basis-one c =
     let s = c .before in
     in-one (s .args .s) (s .args .pixels) (s .args .p) (s .pre .0 .base-long) (s .pre .1 .0) (s .pre .1 .1)
 
-basis-one-requires : tie.Need-basis-one-requires
-basis-one-requires c κs = search needs
-
-enum-told : tie.Need-enum-told
-enum-told c = search needs
-
-alone-requires : tie.Need-alone-requires
-alone-requires c κs = search needs
-
-enum-told-2 : tie.Need-enum-told-2
-enum-told-2 c = search needs
-
-mul-scaled : tie.Need-mul-scaled
-mul-scaled c = search needs
-
 shared-slice-copy-out-scaled : tie.Need-shared-slice-copy-out-scaled
 shared-slice-copy-out-scaled c =
     let s = c .before .before .before .before .before in
     in-one (s .args .s) (s .args .pixels) (s .args .p) (s .pre .0 .residual-long (c .enum-told2 .given .1)) (s .pre .1 .0) (s .pre .1 .1)
-
-scaled-requires : tie.Need-scaled-requires
-scaled-requires c κs = search needs
 
 added-requires : tie.Need-added-requires
 added-requires c κs =
@@ -81,15 +60,15 @@ pub one-at-spec : {M : Type 1} → statement M
 one-at-spec =
     tie.close
     (tie.spec
-    mul-basis-one
+    (λ c. search needs)
     shared-slice-copy-out-basis-one
-    basis-one-requires
-    enum-told
-    alone-requires
-    enum-told-2
-    mul-scaled
+    (λ c κs. search needs)
+    (λ c. search needs)
+    (λ c κs. search needs)
+    (λ c. search needs)
+    (λ c. search needs)
     shared-slice-copy-out-scaled
-    scaled-requires
+    (λ c κs. search needs)
     added-requires
     returns
     returns-2)

@@ -12,80 +12,35 @@ use Rattle.merge.proofs.Laws.{in-first, in-second, in-third, three-alon
 use Rattle.merge.proofs.three_at.Statement.{statement}
 use Rattle.merge.proofs.three_at.Tie as tie
 
-add-q : tie.Need-add-q
-add-q c = search needs
-
-add-w : tie.Need-add-w
-add-w c = search needs
-
-add-w-2 : tie.Need-add-w-2
-add-w-2 c = search needs
-
-mul-basis-three : tie.Need-mul-basis-three
-mul-basis-three c = search needs
-
 shared-slice-copy-out-basis-three : tie.Need-shared-slice-copy-out-basis-three
 shared-slice-copy-out-basis-three c =
     let s = c .before in
     in-first (s .args .s) (s .args .pixels) (s .args .p) (s .pre .0 .base-long) (s .pre .1 .0) (s .pre .1 .1)
-
-mul-basis-three-2 : tie.Need-mul-basis-three-2
-mul-basis-three-2 c = search needs
 
 shared-slice-copy-out-basis-three-2 : tie.Need-shared-slice-copy-out-basis-three-2
 shared-slice-copy-out-basis-three-2 c =
     let s = c .before .before in
     in-second (s .args .s) (s .args .pixels) (s .args .p) (s .pre .0 .base-long) (s .pre .1 .0) (s .pre .1 .1)
 
-mul-basis-three-3 : tie.Need-mul-basis-three-3
-mul-basis-three-3 c = search needs
-
 shared-slice-copy-out-basis-three-3 : tie.Need-shared-slice-copy-out-basis-three-3
 shared-slice-copy-out-basis-three-3 c =
     let s = c .before .before .before in
     in-third (s .args .s) (s .args .pixels) (s .args .p) (s .pre .0 .base-long) (s .pre .1 .0) (s .pre .1 .1)
-
-basis-three-requires : tie.Need-basis-three-requires
-basis-three-requires c κs = search needs
-
-enum-told : tie.Need-enum-told
-enum-told c = search needs
-
-alone-three-requires : tie.Need-alone-three-requires
-alone-three-requires c κs = search needs
-
-enum-told-2 : tie.Need-enum-told-2
-enum-told-2 c = search needs
-
-mul-residual-three : tie.Need-mul-residual-three
-mul-residual-three c = search needs
 
 shared-slice-copy-out-residual-three : tie.Need-shared-slice-copy-out-residual-three
 shared-slice-copy-out-residual-three c =
     let s = c .before .before .before .before .before .before .before in
     in-first (s .args .s) (s .args .pixels) (s .args .p) (s .pre .0 .residual-long (c .enum-told2 .given .1)) (s .pre .1 .0) (s .pre .1 .1)
 
-mul-residual-three-2 : tie.Need-mul-residual-three-2
-mul-residual-three-2 c = search needs
-
 shared-slice-copy-out-residual-three-2 : tie.Need-shared-slice-copy-out-residual-three-2
 shared-slice-copy-out-residual-three-2 c =
     let s = c .before .before .before .before .before .before .before .before in
     in-second (s .args .s) (s .args .pixels) (s .args .p) (s .pre .0 .residual-long (c .before .enum-told2 .given .1)) (s .pre .1 .0) (s .pre .1 .1)
 
-mul-residual-three-3 : tie.Need-mul-residual-three-3
-mul-residual-three-3 c = search needs
-
 shared-slice-copy-out-residual-three-3 : tie.Need-shared-slice-copy-out-residual-three-3
 shared-slice-copy-out-residual-three-3 c =
     let s = c .before .before .before .before .before .before .before .before .before in
     in-third (s .args .s) (s .args .pixels) (s .args .p) (s .pre .0 .residual-long (c .before .before .enum-told2 .given .1)) (s .pre .1 .0) (s .pre .1 .1)
-
-residual-three-requires : tie.Need-residual-three-requires
-residual-three-requires c κs = search needs
-
-added-three-requires : tie.Need-added-three-requires
-added-three-requires c κs = search needs
 
 -- steps 1 to 3 of the pixel
 based : (c : tie.After-basis-three) → threeOf (c .basis-three .result) ≡ basis (c .before .before .before .before .before .args .s) (c .before .before .before .before .before .args .table .now) (triple (getD (c .before .before .before .before .before .args .base .now) (c .before .before .before .before .before .args .p) (pos 0)) (getD (c .before .before .before .before .before .args .base .now) (c .before .before .before .before .before .args .pixels + c .before .before .before .before .before .args .p) (pos 0)) (getD (c .before .before .before .before .before .args .base .now) (c .before .before .before .before .before .args .pixels + c .before .before .before .before .before .args .pixels + c .before .before .before .before .before .args .p) (pos 0)))
@@ -124,26 +79,26 @@ pub three-at-spec : {M : Type 1} → statement M
 three-at-spec =
     tie.close
     (tie.spec
-    add-q
-    add-w
-    add-w-2
-    mul-basis-three
+    (λ c. search needs)
+    (λ c. search needs)
+    (λ c. search needs)
+    (λ c. search needs)
     shared-slice-copy-out-basis-three
-    mul-basis-three-2
+    (λ c. search needs)
     shared-slice-copy-out-basis-three-2
-    mul-basis-three-3
+    (λ c. search needs)
     shared-slice-copy-out-basis-three-3
-    basis-three-requires
-    enum-told
-    alone-three-requires
-    enum-told-2
-    mul-residual-three
+    (λ c κs. search needs)
+    (λ c. search needs)
+    (λ c κs. search needs)
+    (λ c. search needs)
+    (λ c. search needs)
     shared-slice-copy-out-residual-three
-    mul-residual-three-2
+    (λ c. search needs)
     shared-slice-copy-out-residual-three-2
-    mul-residual-three-3
+    (λ c. search needs)
     shared-slice-copy-out-residual-three-3
-    residual-three-requires
-    added-three-requires
+    (λ c κs. search needs)
+    (λ c κs. search needs)
     returns
     returns-2)

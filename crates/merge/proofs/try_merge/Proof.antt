@@ -43,29 +43,11 @@ module _ (c : tie.Else4) where
   unfolding start
   lent = lending _ _ _ _ _ (in-range (c .before .before)) (passed-3 (c .before .before)) passed-4
 
-in-ranges-requires : tie.Need-in-ranges-requires
-in-ranges-requires c κs = search needs
-
-refuse-requires : tie.Need-refuse-requires
-refuse-requires c κs = search needs
-
 returns : tie.Need-returns
 returns c = tried-refused (c .refuse .ensures) (no-range _ _ _ _ _ _ (sym (c .before .before .in-ranges .ensures) ∙ not-true _ (c .before .if1 .taken)))
 
-plain-requires : tie.Need-plain-requires
-plain-requires c κs = search needs
-
-refuse-requires-2 : tie.Need-refuse-requires-2
-refuse-requires-2 c κs = search needs
-
 returns-2 : tie.Need-returns-2
 returns-2 c = tried-refused (c .refuse2 .ensures) (not-plain _ _ _ _ _ _ (passed-1 (c .before .before .before)) (sym (c .before .before .plain .ensures) ∙ not-true _ (c .before .if2 .taken)))
-
-srgb-allowed-requires : tie.Need-srgb-allowed-requires
-srgb-allowed-requires c κs = search needs
-
-refuse-requires-3 : tie.Need-refuse-requires-3
-refuse-requires-3 c κs = search needs
 
 returns-3 : tie.Need-returns-3
 returns-3 c = tried-refused (c .refuse3 .ensures) (no-srgb _ _ _ _ _ _ (passed-1 (c .before .before .before .before .before)) (passed-2 (c .before .before .before)) (sym (c .before .before .srgb-allowed .ensures) ∙ not-true _ (c .before .if3 .taken)))
@@ -73,23 +55,11 @@ returns-3 c = tried-refused (c .refuse3 .ensures) (no-srgb _ _ _ _ _ _ (passed-1
 lengths-right-requires : tie.Need-lengths-right-requires
 lengths-right-requires c κs = in-range c
 
-refuse-requires-4 : tie.Need-refuse-requires-4
-refuse-requires-4 c κs = search needs
-
 returns-4 : tie.Need-returns-4
 returns-4 c = tried-refused (c .refuse4 .ensures) (no-lengths _ _ _ _ _ _ (passed-1 (c .before .before .before .before .before .before .before)) (passed-2 (c .before .before .before .before .before)) (passed-3 (c .before .before .before)) (sym (c .before .before .lengths-right .ensures) ∙ not-true _ (c .before .if4 .taken)))
 
 top-of-requires : tie.Need-top-of-requires
 top-of-requires c κs = in-range (c .before .before) .rb-small
-
-first-large-requires : tie.Need-first-large-requires
-first-large-requires c κs = search needs
-
-enum-known-large : tie.Need-enum-known-large
-enum-known-large c = search needs
-
-refuse-requires-5 : tie.Need-refuse-requires-5
-refuse-requires-5 c κs = search needs
 
 searched : (c : tie.After-first-large) → firstFail (length (start (c .before .before) .args .table .now)) (entryRight (top (start (c .before .before) .args .s .rb)) (start (c .before .before) .args .table .now)) ≡ c .first-large .result
 unfolding start
@@ -103,21 +73,12 @@ returns-5 c =
     let l = c .before .before .before .before in
     tried-refused (c .refuse5 .ensures) (too-large _ _ _ _ _ _ (passed-1 (l .before .before .before .before .before .before .before .before)) (passed-2 (l .before .before .before .before .before .before)) (passed-3 (l .before .before .before .before)) (passed-4 (l .before .before)) _ (searched l ∙ c .before .before .large .given .1))
 
-enum-told : tie.Need-enum-told
-enum-told c = search needs
-
-cast-count : tie.Need-cast-count
-cast-count c = search needs
-
 mul-count : tie.Need-mul-count
 unfolding start
 mul-count c =
     let r = in-range (c .before .before .before .before .before .before .before) in
     let a = start (c .before .before .before .before .before) .args in
     record { fits = omega (arith, count-small (a .s .components) (a .pixels) (r .components-right) (r .pixels-few)) }
-
-refuse-requires-6 : tie.Need-refuse-requires-6
-refuse-requires-6 c κs = search needs
 
 returns-6 : tie.Need-returns-6
 unfolding start
@@ -128,9 +89,6 @@ returns-6 c =
 fill-one-requires : tie.Need-fill-one-requires
 unfolding start
 fill-one-requires c κs = (lent (c .before .before .before .before .before .before .before .before .before), (c .before .if6 .taken, c .before .before .before .if5 .left))
-
-same-length : tie.Need-same-length
-same-length c = search needs
 
 returns-7 : tie.Need-returns-7
 unfolding start
@@ -149,9 +107,6 @@ fill-three-requires : tie.Need-fill-three-requires
 unfolding start
 fill-three-requires c κs = (lent (c .before .before .before .before .before .before .before .before .before), (three (c .before .before .before .before .before .before .before .before .before) (c .before .if6 .left), c .before .before .before .if5 .left))
 
-same-length-2 : tie.Need-same-length-2
-same-length-2 c = search needs
-
 returns-8 : tie.Need-returns-8
 unfolding start
 returns-8 c =
@@ -165,31 +120,31 @@ pub try-merge-spec : {M : Type 1} → statement M
 try-merge-spec =
     tie.close
     (tie.spec
-    in-ranges-requires
-    refuse-requires
+    (λ c κs. search needs)
+    (λ c κs. search needs)
     returns
-    plain-requires
-    refuse-requires-2
+    (λ c κs. search needs)
+    (λ c κs. search needs)
     returns-2
-    srgb-allowed-requires
-    refuse-requires-3
+    (λ c κs. search needs)
+    (λ c κs. search needs)
     returns-3
     lengths-right-requires
-    refuse-requires-4
+    (λ c κs. search needs)
     returns-4
     top-of-requires
-    first-large-requires
-    enum-known-large
-    refuse-requires-5
+    (λ c κs. search needs)
+    (λ c. search needs)
+    (λ c κs. search needs)
     returns-5
-    enum-told
-    cast-count
+    (λ c. search needs)
+    (λ c. search needs)
     mul-count
-    refuse-requires-6
+    (λ c κs. search needs)
     returns-6
     fill-one-requires
-    same-length
+    (λ c. search needs)
     returns-7
     fill-three-requires
-    same-length-2
+    (λ c. search needs)
     returns-8)

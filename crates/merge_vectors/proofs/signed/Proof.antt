@@ -13,17 +13,11 @@ use Rattle.merge_vectors.proofs.signed.Tie as tie
 fits : (c : tie.Start) → SFits w32 (pos (c .args .w) -ℤ pos 2147483648)
 fits c = record { sfits = less-half 2147483648 (c .args .w) (omega arith) (omega arith) }
 
-cast-v : tie.Need-cast-v
-cast-v c = search needs
-
 sub-v : tie.Need-sub-v
 sub-v c = rw (toZ-pos w64 {n = c .args .w} (omega arith)) (to64 (fits c))
 
 cast-result : tie.Need-cast-result
 cast-result c = rw (toZ-pos w64 {n = c .args .w} (omega arith), toZ-ofZ (to64 (fits c))) (fits c)
 
-returns : tie.Need-returns
-returns c = search needs
-
 pub signed-spec : {M : Type 1} → statement M
-signed-spec = tie.close (tie.spec cast-v sub-v cast-result returns)
+signed-spec = tie.close (tie.spec (λ c. search needs) sub-v cast-result (λ c. search needs))

@@ -15,20 +15,11 @@ fits c = record { sfits = less-half 32768 (c .before .args .w) (omega arith) (om
 wider : (c : tie.Else1) → SFits w32 (pos (c .before .args .w) -ℤ pos 32768)
 wider c = sfits-widen tt (fits c)
 
-returns : tie.Need-returns
-returns c = search needs
-
-cast-v : tie.Need-cast-v
-cast-v c = search needs
-
 sub-v : tie.Need-sub-v
 sub-v c = rw (toZ-pos w32 {n = c .before .args .w} (omega arith)) (wider c)
 
 cast-result : tie.Need-cast-result
 cast-result c = rw (toZ-pos w32 {n = c .before .args .w} (omega arith), toZ-ofZ (wider c)) (fits c)
 
-returns-2 : tie.Need-returns-2
-returns-2 c = search needs
-
 pub weight-spec : {M : Type 1} → statement M
-weight-spec = tie.close (tie.spec returns cast-v sub-v cast-result returns-2)
+weight-spec = tie.close (tie.spec (λ c. search needs) (λ c. search needs) sub-v cast-result (λ c. search needs))

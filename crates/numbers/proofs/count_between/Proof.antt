@@ -17,26 +17,8 @@ Inv-loop file kind instance lo hi at₀ n₀ at n = (n + between lo hi (numbersF
 abbrev μ-loop : tie.MeasureT-loop
 μ-loop file kind instance lo hi at₀ n₀ at n = length file - at
 
-loop-holds : tie.Need-loop-holds Inv-loop μ-loop
-loop-holds c = search needs
-
-next-mine-requires : tie.Need-next-mine-requires Inv-loop μ-loop
-next-mine-requires c κs = search needs
-
-enum-told : tie.Need-enum-told Inv-loop μ-loop
-enum-told c = search needs
-
 returns : tie.Need-returns Inv-loop μ-loop
 returns c = between-end _ _ _ _ (c .before .before .before .loop .inv .0) (numbers-gone _ _ _ _ (gone _ _ _ _ (c .before .before .next-mine .ensures) (c .enum-told .given .1)))
-
-enum-known-head : tie.Need-enum-known-head Inv-loop μ-loop
-enum-known-head c = search needs
-
-cast-within : tie.Need-cast-within Inv-loop μ-loop
-cast-within c = search needs
-
-within-requires : tie.Need-within-requires Inv-loop μ-loop
-within-requires c κs = search needs
 
 tick-requires : tie.Need-tick-requires Inv-loop μ-loop
 tick-requires c κs = let m = met _ _ _ _ (c .before .before .before .before .before .next-mine .ensures) (c .before .before .before .head .given .1) in omega arith
@@ -54,13 +36,13 @@ count-between-spec =
     (tie.spec
     Inv-loop
     μ-loop
-    loop-holds
-    next-mine-requires
-    enum-told
+    (λ c. search needs)
+    (λ c κs. search needs)
+    (λ c. search needs)
     returns
-    enum-known-head
-    cast-within
-    within-requires
+    (λ c. search needs)
+    (λ c. search needs)
+    (λ c κs. search needs)
     tick-requires
     loop-less
     loop-again)

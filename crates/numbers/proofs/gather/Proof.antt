@@ -20,35 +20,14 @@ abbrev μ-loop : tie.MeasureT-loop
 loop-holds : tie.Need-loop-holds Inv-loop μ-loop
 loop-holds c = gather-start _ _ _ _ (c .before .before .pre)
 
-next-mine-requires : tie.Need-next-mine-requires Inv-loop μ-loop
-next-mine-requires c κs = search needs
-
-enum-told : tie.Need-enum-told Inv-loop μ-loop
-enum-told c = search needs
-
 same-length : tie.Need-same-length Inv-loop μ-loop
 same-length c = c .before .before .before .loop .inv .size
 
 returns : tie.Need-returns Inv-loop μ-loop
 returns c = gather-end (c .before .before .before .loop .inv) (numbers-gone _ _ _ _ (gone _ _ _ _ (c .before .before .next-mine .ensures) (c .enum-told .given .1)))
 
-enum-known-head : tie.Need-enum-known-head Inv-loop μ-loop
-enum-known-head c = search needs
-
-cast-within : tie.Need-cast-within Inv-loop μ-loop
-cast-within c = search needs
-
-within-requires : tie.Need-within-requires Inv-loop μ-loop
-within-requires c κs = search needs
-
-mul-held : tie.Need-mul-held Inv-loop μ-loop
-mul-held c = search needs
-
 slice-write-held : tie.Need-slice-write-held Inv-loop μ-loop
 slice-write-held c = let m = met _ _ _ _ (c .before .before .before .before .before .next-mine .ensures) (c .before .before .before .head .given .1) in gather-room (c .before .before .before .before .before .before .loop .inv) (numbers-met m) (sym (c .before .within .ensures) ∙ c .if1 .taken)
-
-add-k : tie.Need-add-k Inv-loop μ-loop
-add-k c = search needs
 
 loop-less : tie.Need-loop-less Inv-loop μ-loop
 loop-less c = let m = met _ _ _ _ (c .before .before .before .before .before .next-mine .ensures) (c .before .before .before .head .given .1) in omega arith
@@ -69,16 +48,16 @@ gather-spec =
     Inv-loop
     μ-loop
     loop-holds
-    next-mine-requires
-    enum-told
+    (λ c κs. search needs)
+    (λ c. search needs)
     same-length
     returns
-    enum-known-head
-    cast-within
-    within-requires
-    mul-held
+    (λ c. search needs)
+    (λ c. search needs)
+    (λ c κs. search needs)
+    (λ c. search needs)
     slice-write-held
-    add-k
+    (λ c. search needs)
     loop-less
     loop-again
     loop-less-2

@@ -21,26 +21,8 @@ loop-holds : tie.Need-loop-holds Inv-loop μ-loop
 unfolding least
 loop-holds c = (refl, omega arith)
 
-mul-q : tie.Need-mul-q Inv-loop μ-loop
-mul-q c = search needs
-
-shared-slice-read-q : tie.Need-shared-slice-read-q Inv-loop μ-loop
-shared-slice-read-q c = search needs
-
-add-i : tie.Need-add-i Inv-loop μ-loop
-add-i c = search needs
-
 cast-lower : tie.Need-cast-lower Inv-loop μ-loop
 cast-lower c = omega (arith, c .before .before .before .shared-slice-known .given (c .before .before .loop .i))
-
-stands-from-requires : tie.Need-stands-from-requires Inv-loop μ-loop
-stands-from-requires c κs = search needs
-
-lower-requires : tie.Need-lower-requires Inv-loop μ-loop
-lower-requires c κs = search needs
-
-loop-less : tie.Need-loop-less Inv-loop μ-loop
-loop-less c = search needs
 
 loop-again : tie.Need-loop-again Inv-loop μ-loop
 loop-again c = let e = drop-next (c .before .before .before .before .before .before .args .held .now) (c .before .before .before .before .loop .i) (search needs) in
@@ -56,12 +38,12 @@ least-twice-spec =
     Inv-loop
     μ-loop
     loop-holds
-    mul-q
-    shared-slice-read-q
-    add-i
+    (λ c. search needs)
+    (λ c. search needs)
+    (λ c. search needs)
     cast-lower
-    stands-from-requires
-    lower-requires
-    loop-less
+    (λ c κs. search needs)
+    (λ c κs. search needs)
+    (λ c. search needs)
     loop-again
     returns)

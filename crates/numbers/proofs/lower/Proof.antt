@@ -12,12 +12,6 @@ use Rattle.numbers.proofs.lower.Tie as tie
 returns : tie.Need-returns
 returns c = simp (eq-eqb _ _ (c .if1 .taken)) (least-right _)
 
-enum-told : tie.Need-enum-told
-enum-told c = search needs
-
-enum-known-w : tie.Need-enum-known-w
-enum-known-w c = search needs
-
 returns-2 : tie.Need-returns-2
 unfolding least
 returns-2 c = rw (c .enum-told .given .1, ne-eqb _ _ (c .before .before .if1 .left))
@@ -31,4 +25,4 @@ unfolding least
 returns-4 c = rw (c .before .before .w .given .1, ne-eqb _ _ (c .before .before .before .before .if1 .left)) (ap At (omega arith))
 
 pub lower-spec : {M : Type 1} → statement M
-lower-spec = tie.close (tie.spec returns enum-told enum-known-w returns-2 returns-3 returns-4)
+lower-spec = tie.close (tie.spec returns (λ c. search needs) (λ c. search needs) returns-2 returns-3 returns-4)

@@ -17,23 +17,8 @@ Inv-loop file kind instance at₀ m₀ at m = (m ≤ 4294967296) × ((q : ℕ) �
 abbrev μ-loop : tie.MeasureT-loop
 μ-loop file kind instance at₀ m₀ at m = length file - at
 
-loop-holds : tie.Need-loop-holds Inv-loop μ-loop
-loop-holds c = search needs
-
-next-mine-requires : tie.Need-next-mine-requires Inv-loop μ-loop
-next-mine-requires c κs = search needs
-
-enum-told : tie.Need-enum-told Inv-loop μ-loop
-enum-told c = search needs
-
 returns : tie.Need-returns Inv-loop μ-loop
 returns c = (c .before .before .before .loop .inv .0, past-end _ _ _ (c .before .before .before .loop .inv .1) (numbers-gone _ _ _ _ (gone _ _ _ _ (c .before .before .next-mine .ensures) (c .enum-told .given .1))))
-
-enum-known-head : tie.Need-enum-known-head Inv-loop μ-loop
-enum-known-head c = search needs
-
-past-requires : tie.Need-past-requires Inv-loop μ-loop
-past-requires c κs = search needs
 
 loop-less : tie.Need-loop-less Inv-loop μ-loop
 loop-less c = let m = met _ _ _ _ (c .before .before .before .before .next-mine .ensures) (c .before .before .head .given .1) in omega arith
@@ -48,11 +33,11 @@ past-all-spec =
     (tie.spec
     Inv-loop
     μ-loop
-    loop-holds
-    next-mine-requires
-    enum-told
+    (λ c. search needs)
+    (λ c κs. search needs)
+    (λ c. search needs)
     returns
-    enum-known-head
-    past-requires
+    (λ c. search needs)
+    (λ c κs. search needs)
     loop-less
     loop-again)

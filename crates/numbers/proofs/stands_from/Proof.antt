@@ -16,24 +16,6 @@ Inv-loop held from q n₀ i₀ n i = (n + count q (drop i held) ≡ count q (dro
 abbrev μ-loop : tie.MeasureT-loop
 μ-loop held from q n₀ i₀ n i = length held - i
 
-loop-holds : tie.Need-loop-holds Inv-loop μ-loop
-loop-holds c = search needs
-
-mul-tick : tie.Need-mul-tick Inv-loop μ-loop
-mul-tick c = search needs
-
-shared-slice-read-tick : tie.Need-shared-slice-read-tick Inv-loop μ-loop
-shared-slice-read-tick c = search needs
-
-tick-requires : tie.Need-tick-requires Inv-loop μ-loop
-tick-requires c κs = search needs
-
-add-i : tie.Need-add-i Inv-loop μ-loop
-add-i c = search needs
-
-loop-less : tie.Need-loop-less Inv-loop μ-loop
-loop-less c = search needs
-
 loop-again : tie.Need-loop-again Inv-loop μ-loop
 loop-again c = (rw (c .tick .ensures .0) (count-turn _ _ _ (c .before .before .before .loop .inv .0) (drop-next (c .before .before .before .before .before .args .held .now) (c .before .before .before .loop .i) (search needs))), omega arith, omega arith)
 
@@ -46,11 +28,11 @@ stands-from-spec =
     (tie.spec
     Inv-loop
     μ-loop
-    loop-holds
-    mul-tick
-    shared-slice-read-tick
-    tick-requires
-    add-i
-    loop-less
+    (λ c. search needs)
+    (λ c. search needs)
+    (λ c. search needs)
+    (λ c κs. search needs)
+    (λ c. search needs)
+    (λ c. search needs)
     loop-again
     returns)

@@ -15,9 +15,6 @@ Inv-loop file kind instance held₀ top lo₀ held lo = ((j : ℕ) → j < lo �
 abbrev μ-loop : tie.MeasureT-loop
 μ-loop file kind instance held₀ top lo₀ held lo = top - lo
 
-past-all-requires : tie.Need-past-all-requires Inv-loop μ-loop
-past-all-requires c κs = search needs
-
 loop-holds : tie.Need-loop-holds Inv-loop μ-loop
 loop-holds c = (λ j l. absurd (omega arith), refl)
 
@@ -27,26 +24,11 @@ window-end-requires c κs = (c .loop-test .taken, c .before .before .past-all .e
 twice-in-requires : tie.Need-twice-in-requires Inv-loop μ-loop
 twice-in-requires c κs = let h = c .before .window-end .ensures in (h .0 .0, omega (arith, h .0, c .before .before .before .before .past-all .ensures .0), h .1)
 
-enum-known-q : tie.Need-enum-known-q Inv-loop μ-loop
-enum-known-q c = search needs
-
-same-length : tie.Need-same-length Inv-loop μ-loop
-same-length c = search needs
-
 returns : tie.Need-returns Inv-loop μ-loop
 returns c = windows-found _ _ _ (c .before .before .before .before .before .before .before .before .before .loop .inv .0) (c .before .before .before .before .before .twice-in .ensures) (c .before .q .given .1)
 
-enum-told : tie.Need-enum-told Inv-loop μ-loop
-enum-told c = search needs
-
-loop-less : tie.Need-loop-less Inv-loop μ-loop
-loop-less c = search needs
-
 loop-again : tie.Need-loop-again Inv-loop μ-loop
 loop-again c = (windows-next _ _ _ (c .before .before .before .before .before .before .before .before .loop .inv .0) (c .before .before .before .before .twice-in .ensures) (c .enum-told .given .1), search needs)
-
-same-length-2 : tie.Need-same-length-2 Inv-loop μ-loop
-same-length-2 c = search needs
 
 returns-2 : tie.Need-returns-2 Inv-loop μ-loop
 returns-2 c = windows-end _ _ _ (c .before .loop .inv .0) (c .loop-test .left) (c .before .before .past-all .ensures .1)
@@ -57,15 +39,15 @@ twice-by-spec =
     (tie.spec
     Inv-loop
     μ-loop
-    past-all-requires
+    (λ c κs. search needs)
     loop-holds
     window-end-requires
     twice-in-requires
-    enum-known-q
-    same-length
+    (λ c. search needs)
+    (λ c. search needs)
     returns
-    enum-told
-    loop-less
+    (λ c. search needs)
+    (λ c. search needs)
     loop-again
-    same-length-2
+    (λ c. search needs)
     returns-2)

@@ -9,12 +9,6 @@ use borrow.Author.Needs.{needs}
 use Rattle.numbers.proofs.twice_in.Statement.{statement}
 use Rattle.numbers.proofs.twice_in.Tie as tie
 
-add-if1 : tie.Need-add-if1
-add-if1 c = search needs
-
-count-between-requires : tie.Need-count-between-requires
-count-between-requires c κs = search needs
-
 returns : tie.Need-returns
 returns c = single-once _ _ (c .before .before .if1 .taken) (omega (arith, c .before .count-between .ensures, c .if2 .taken))
 
@@ -24,17 +18,8 @@ returns-2 c = single-twice _ _ (c .before .before .if1 .taken) (omega (arith, c 
 gather-requires : tie.Need-gather-requires
 gather-requires c κs = c .before .before .before .before .pre .2 (c .before .if1 .left)
 
-slice-reshare-prefix-least-twice : tie.Need-slice-reshare-prefix-least-twice
-slice-reshare-prefix-least-twice c = search needs
-
 slice-aggregate-least-twice : tie.Need-slice-aggregate-least-twice
 slice-aggregate-least-twice c = sym (length-take-le _ _ (search needs))
-
-least-twice-requires : tie.Need-least-twice-requires
-least-twice-requires c κs = search needs
-
-same-length : tie.Need-same-length
-same-length c = search needs
 
 returns-3 : tie.Need-returns-3
 returns-3 c = window-twice _ _ _ _ (c .least-twice .ensures ∙ ap twice (c .before .before .before .before .gather .ensures .0))
@@ -43,13 +28,13 @@ pub twice-in-spec : {M : Type 1} → statement M
 twice-in-spec =
     tie.close
     (tie.spec
-    add-if1
-    count-between-requires
+    (λ c. search needs)
+    (λ c κs. search needs)
     returns
     returns-2
     gather-requires
-    slice-reshare-prefix-least-twice
+    (λ c. search needs)
     slice-aggregate-least-twice
-    least-twice-requires
-    same-length
+    (λ c κs. search needs)
+    (λ c. search needs)
     returns-3)

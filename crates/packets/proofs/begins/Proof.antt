@@ -9,12 +9,6 @@ returns : tie.Need-returns
 unfolding begins
 returns c = simp (lt-ltb _ _ (c .if1 .taken))
 
-shared-slice-read-if2 : tie.Need-shared-slice-read-if2
-shared-slice-read-if2 c = search needs
-
-shared-slice-read-result : tie.Need-shared-slice-read-result
-shared-slice-read-result c = search needs
-
 returns-2 : tie.Need-returns-2
 unfolding begins
 returns-2 c = simp (le-ltb _ _ (c .before .before .before .if1 .left), eq-eqb _ _ (c .before .if2 .taken))
@@ -25,4 +19,4 @@ returns-3 c = simp (le-ltb _ _ (c .before .before .if1 .left), ne-eqb _ _ (c .if
 
 pub begins-spec : {M : Type 1} → statement M
 begins-spec =
-    tie.close (tie.spec returns shared-slice-read-if2 shared-slice-read-result returns-2 returns-3)
+    tie.close (tie.spec returns (λ c. search needs) (λ c. search needs) returns-2 returns-3)

@@ -15,26 +15,11 @@ Inv-loop file kind instance from at₀ at = (mineFrom file kind instance at ≡ 
 abbrev μ-loop : tie.MeasureT-loop
 μ-loop file kind instance from at₀ at = length file - at
 
-loop-holds : tie.Need-loop-holds Inv-loop μ-loop
-loop-holds c = search needs
-
-step-at-requires : tie.Need-step-at-requires Inv-loop μ-loop
-step-at-requires c κs = search needs
-
-enum-told : tie.Need-enum-told Inv-loop μ-loop
-enum-told c = search needs
-
 returns : tie.Need-returns Inv-loop μ-loop
 returns c = sym (c .before .before .before .loop .inv .0) ∙ mine-end _ _ _ _ (sym (c .before .before .step-at .ensures) ∙ c .enum-told .given .1)
 
-enum-told-2 : tie.Need-enum-told-2 Inv-loop μ-loop
-enum-told-2 c = search needs
-
 returns-2 : tie.Need-returns-2 Inv-loop μ-loop
 returns-2 c = sym (c .before .before .before .loop .inv .0) ∙ mine-broken _ _ _ _ (sym (c .before .before .step-at .ensures) ∙ c .enum-told2 .given .1)
-
-enum-known-next : tie.Need-enum-known-next Inv-loop μ-loop
-enum-known-next c = search needs
 
 loop-less : tie.Need-loop-less Inv-loop μ-loop
 loop-less c = omega (arith, forward-skip _ _ (sym (c .before .before .before .step-at .ensures) ∙ c .before .next .given .1))
@@ -42,12 +27,6 @@ loop-less c = omega (arith, forward-skip _ _ (sym (c .before .before .before .st
 loop-again : tie.Need-loop-again Inv-loop μ-loop
 loop-again c = let e = sym (c .before .before .before .step-at .ensures) ∙ c .before .next .given .1 in
     (sym (mine-skip _ _ _ _ e) ∙ c .before .before .before .before .loop .inv .0, omega (arith, forward-skip _ _ e))
-
-enum-known-head : tie.Need-enum-known-head Inv-loop μ-loop
-enum-known-head c = search needs
-
-is-mine-requires : tie.Need-is-mine-requires Inv-loop μ-loop
-is-mine-requires c κs = search needs
 
 returns-3 : tie.Need-returns-3 Inv-loop μ-loop
 returns-3 c = let e = sym (c .before .before .before .before .before .step-at .ensures) ∙ c .before .before .before .head .given .1 in
@@ -72,17 +51,17 @@ next-mine-spec =
     (tie.spec
     Inv-loop
     μ-loop
-    loop-holds
-    step-at-requires
-    enum-told
+    (λ c. search needs)
+    (λ c κs. search needs)
+    (λ c. search needs)
     returns
-    enum-told-2
+    (λ c. search needs)
     returns-2
-    enum-known-next
+    (λ c. search needs)
     loop-less
     loop-again
-    enum-known-head
-    is-mine-requires
+    (λ c. search needs)
+    (λ c κs. search needs)
     returns-3
     loop-less-2
     loop-again-2)

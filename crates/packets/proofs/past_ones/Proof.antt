@@ -14,20 +14,8 @@ Inv-loop s at m₀ m = m + ones (drop m s) ≡ at + ones (drop at s)
 abbrev μ-loop : tie.MeasureT-loop
 μ-loop s at m₀ m = length s - m
 
-loop-holds : tie.Need-loop-holds Inv-loop μ-loop
-loop-holds c = search needs
-
-shared-slice-read-if1 : tie.Need-shared-slice-read-if1 Inv-loop μ-loop
-shared-slice-read-if1 c = search needs
-
 returns : tie.Need-returns Inv-loop μ-loop
 returns c = ones-off _ _ (search needs) (c .if1 .taken) ∙ c .before .before .before .loop .inv
-
-add-m : tie.Need-add-m Inv-loop μ-loop
-add-m c = search needs
-
-loop-less : tie.Need-loop-less Inv-loop μ-loop
-loop-less c = search needs
 
 loop-again : tie.Need-loop-again Inv-loop μ-loop
 loop-again c = sym (ones-on _ _ (search needs) (c .if1 .left)) ∙ c .before .before .before .loop .inv
@@ -41,10 +29,10 @@ past-ones-spec =
     (tie.spec
     Inv-loop
     μ-loop
-    loop-holds
-    shared-slice-read-if1
+    (λ c. search needs)
+    (λ c. search needs)
     returns
-    add-m
-    loop-less
+    (λ c. search needs)
+    (λ c. search needs)
     loop-again
     returns-2)

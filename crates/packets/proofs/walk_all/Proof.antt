@@ -6,12 +6,6 @@ use borrow.Author.Needs.{needs}
 use Rattle.packets.proofs.walk_all.Statement.{statement}
 use Rattle.packets.proofs.walk_all.Tie as tie
 
-begins-requires : tie.Need-begins-requires
-begins-requires c κs = search needs
-
-walk-end-requires : tie.Need-walk-end-requires
-walk-end-requires c κs = search needs
-
 returns : tie.Need-returns
 returns c = c .walk-end .ensures ∙ ap ending (sym (walk-begun _ (sym (c .before .before .begins .ensures) ∙ c .before .if1 .taken)))
 
@@ -19,4 +13,4 @@ returns-2 : tie.Need-returns-2
 returns-2 c = sym (walk-not _ (sym (c .before .begins .ensures) ∙ c .if1 .left))
 
 pub walk-all-spec : {M : Type 1} → statement M
-walk-all-spec = tie.close (tie.spec begins-requires walk-end-requires returns returns-2)
+walk-all-spec = tie.close (tie.spec (λ c κs. search needs) (λ c κs. search needs) returns returns-2)

@@ -18,32 +18,17 @@ abbrev μ-loop : tie.MeasureT-loop
 loop-holds : tie.Need-loop-holds Inv-loop μ-loop
 loop-holds c = refl
 
-step-at-requires : tie.Need-step-at-requires Inv-loop μ-loop
-step-at-requires c κs = search needs
-
-enum-told : tie.Need-enum-told Inv-loop μ-loop
-enum-told c = search needs
-
 returns : tie.Need-returns Inv-loop μ-loop
 returns c = sym (ending-end _ _ (sym (c .before .before .step-at .ensures) ∙ c .enum-told .given .1)) ∙ c .before .before .before .loop .inv
 
-enum-known-r : tie.Need-enum-known-r Inv-loop μ-loop
-enum-known-r c = search needs
-
 returns-2 : tie.Need-returns-2 Inv-loop μ-loop
 returns-2 c = sym (ending-broken _ _ (sym (c .before .before .before .step-at .ensures) ∙ c .before .r .given .1)) ∙ c .before .before .before .before .loop .inv
-
-enum-known-next : tie.Need-enum-known-next Inv-loop μ-loop
-enum-known-next c = search needs
 
 loop-less : tie.Need-loop-less Inv-loop μ-loop
 loop-less c = omega (arith, forward-skip _ _ (sym (c .before .before .before .step-at .ensures) ∙ c .before .next .given .1))
 
 loop-again : tie.Need-loop-again Inv-loop μ-loop
 loop-again c = sym (ending-skip _ _ (sym (c .before .before .before .step-at .ensures) ∙ c .before .next .given .1)) ∙ c .before .before .before .before .loop .inv
-
-enum-known-next-2 : tie.Need-enum-known-next-2 Inv-loop μ-loop
-enum-known-next-2 c = search needs
 
 loop-less-2 : tie.Need-loop-less-2 Inv-loop μ-loop
 loop-less-2 c = omega (arith, forward-meet _ _ (sym (c .before .before .before .step-at .ensures) ∙ c .before .next2 .given .1))
@@ -58,14 +43,14 @@ walk-end-spec =
     Inv-loop
     μ-loop
     loop-holds
-    step-at-requires
-    enum-told
+    (λ c κs. search needs)
+    (λ c. search needs)
     returns
-    enum-known-r
+    (λ c. search needs)
     returns-2
-    enum-known-next
+    (λ c. search needs)
     loop-less
     loop-again
-    enum-known-next-2
+    (λ c. search needs)
     loop-less-2
     loop-again-2)

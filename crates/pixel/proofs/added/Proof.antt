@@ -14,9 +14,6 @@ use Rattle.pixel.proofs.Laws.{sum-below, difference-below}
 use Rattle.pixel.proofs.added.Statement.{statement}
 use Rattle.pixel.proofs.added.Tie as tie
 
-centre-of-requires : tie.Need-centre-of-requires
-centre-of-requires c κs = search needs
-
 module _ (c : tie.After-centre-of) where
   sum-fits : SFits w64 (c .before .args .b +ℤ c .before .args .r)
   sum-fits = fit-in w64 tt (sum-below (c .before .args .b) (c .before .args .r) (c .before .pre .1 .0) (c .before .pre .1 .1))
@@ -31,12 +28,6 @@ add-clip c = rw (toZ-ofZ (c .before .fits .b), toZ-ofZ (c .before .fits .r)) (su
 
 sub-clip : tie.Need-sub-clip
 sub-clip c = rw (toZ-ofZ (c .before .fits .b), toZ-ofZ (c .before .fits .r), toZ-ofZ (sum-fits c), back w64 (c .centre-of .result) (c .centre-of .ok)) (difference-fits c)
-
-top-of-requires : tie.Need-top-of-requires
-top-of-requires c κs = search needs
-
-clip-requires : tie.Need-clip-requires
-clip-requires c κs = search needs
 
 -- what `clip` is given, read back
 given : (c : tie.After-centre-of) → toZ w64 (ofZ w64 (toZ w64 (ofZ w64 (toZ w64 (ofZ w64 (c .before .args .b)) +ℤ toZ w64 (ofZ w64 (c .before .args .r)))) -ℤ toZ w64 (ofZ w64 (c .centre-of .result)))) ≡ c .before .args .b +ℤ c .before .args .r -ℤ pos (2 ^ (7 + c .before .args .rb))
@@ -53,4 +44,4 @@ returns c =
 
 pub added-spec : {M : Type 1} → statement M
 added-spec =
-    tie.close (tie.spec centre-of-requires add-clip sub-clip top-of-requires clip-requires returns)
+    tie.close (tie.spec (λ c κs. search needs) add-clip sub-clip (λ c κs. search needs) (λ c κs. search needs) returns)

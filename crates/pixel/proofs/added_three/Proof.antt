@@ -6,15 +6,6 @@ use Rattle.pixel.specs.Pixels.{both}
 use Rattle.pixel.proofs.added_three.Statement.{statement}
 use Rattle.pixel.proofs.added_three.Tie as tie
 
-added-requires : tie.Need-added-requires
-added-requires c κs = search needs
-
-added-requires-2 : tie.Need-added-requires-2
-added-requires-2 c κs = search needs
-
-added-requires-3 : tie.Need-added-requires-3
-added-requires-3 c κs = search needs
-
 returns : tie.Need-returns
 unfolding both
 returns c =
@@ -26,4 +17,4 @@ returns c =
     rw (c .before .before .before .before .before .before .added .ensures, c .before .before .before .added2 .ensures, c .added3 .ensures, back w64 (b .first) (k .0 .1), back w64 (b .second) (k .1 .0 .1), back w64 (b .third) (k .1 .1 .0 .1), back w64 (r .first) (l .0 .1), back w64 (r .second) (l .1 .0 .1), back w64 (r .third) (l .1 .1 .0 .1))
 
 pub added-three-spec : {M : Type 1} → statement M
-added-three-spec = tie.close (tie.spec added-requires added-requires-2 added-requires-3 returns)
+added-three-spec = tie.close (tie.spec (λ c κs. search needs) (λ c κs. search needs) (λ c κs. search needs) returns)

@@ -7,12 +7,6 @@ use Rattle.pixel.specs.Steps.{alone}
 use Rattle.pixel.proofs.alone.Statement.{statement}
 use Rattle.pixel.proofs.alone.Tie as tie
 
-top-of-requires : tie.Need-top-of-requires
-top-of-requires c κs = search needs
-
-clip-requires : tie.Need-clip-requires
-clip-requires c κs = search needs
-
 returns : tie.Need-returns
 unfolding alone
 returns c =
@@ -20,4 +14,4 @@ returns c =
     c .clip .ensures ∙ ap (λ z. clip z (c .before .top-of .result)) (toZ-ofZ (s .fits .b)) ∙ ap (clip (s .args .b)) (c .before .top-of .ensures .0)
 
 pub alone-spec : {M : Type 1} → statement M
-alone-spec = tie.close (tie.spec top-of-requires clip-requires returns)
+alone-spec = tie.close (tie.spec (λ c κs. search needs) (λ c κs. search needs) returns)

@@ -6,15 +6,6 @@ use Rattle.pixel.specs.Pixels.{each}
 use Rattle.pixel.proofs.alone_three.Statement.{statement}
 use Rattle.pixel.proofs.alone_three.Tie as tie
 
-alone-requires : tie.Need-alone-requires
-alone-requires c κs = search needs
-
-alone-requires-2 : tie.Need-alone-requires-2
-alone-requires-2 c κs = search needs
-
-alone-requires-3 : tie.Need-alone-requires-3
-alone-requires-3 c κs = search needs
-
 returns : tie.Need-returns
 unfolding each
 returns c =
@@ -23,4 +14,4 @@ returns c =
     rw (c .before .before .before .before .alone .ensures, c .before .before .alone2 .ensures, c .alone3 .ensures, back w64 (b .first) (k .0 .1), back w64 (b .second) (k .1 .0 .1), back w64 (b .third) (k .1 .1 .0 .1))
 
 pub alone-three-spec : {M : Type 1} → statement M
-alone-three-spec = tie.close (tie.spec alone-requires alone-requires-2 alone-requires-3 returns)
+alone-three-spec = tie.close (tie.spec (λ c κs. search needs) (λ c κs. search needs) (λ c κs. search needs) returns)

@@ -12,12 +12,6 @@ use Rattle.pixel.proofs.Laws.{basis-single}
 use Rattle.pixel.proofs.basis_one.Statement.{statement}
 use Rattle.pixel.proofs.basis_one.Tie as tie
 
-wide-requires : tie.Need-wide-requires
-wide-requires c κs = search needs
-
-toned-requires : tie.Need-toned-requires
-toned-requires c κs = search needs
-
 returns : tie.Need-returns
 returns c =
     let s = c .before .before .before in
@@ -30,4 +24,4 @@ returns c =
     rw (back w64 (r .result) (r .ok)) (ap single e ∙ sym (basis-single (a .s) (a .table .now) (a .y)), r .ensures .1)
 
 pub basis-one-spec : {M : Type 1} → statement M
-basis-one-spec = tie.close (tie.spec wide-requires toned-requires returns)
+basis-one-spec = tie.close (tie.spec (λ c κs. search needs) (λ c κs. search needs) returns)

@@ -11,18 +11,6 @@ use Rattle.pixel.proofs.Laws.{two-steps}
 use Rattle.pixel.proofs.basis_three.Statement.{statement}
 use Rattle.pixel.proofs.basis_three.Tie as tie
 
-wide-requires : tie.Need-wide-requires
-wide-requires c κs = search needs
-
-wide-requires-2 : tie.Need-wide-requires-2
-wide-requires-2 c κs = search needs
-
-wide-requires-3 : tie.Need-wide-requires-3
-wide-requires-3 c κs = search needs
-
-first-centre-requires : tie.Need-first-centre-requires
-first-centre-requires c κs = search needs
-
 recolour-requires : tie.Need-recolour-requires
 recolour-requires c κs =
     let f = c .before .before .before .wide in
@@ -31,15 +19,6 @@ recolour-requires c κs =
     let m = c .first-centre in
     rw (back w64 (f .result) (f .ok), back w64 (g .result) (g .ok), back w64 (h .result) (h .ok), back w64 (m .result) (m .ok))
     (record { first-small = omega (arith, f .ensures .1); second-small = omega (arith, g .ensures .1); third-small = omega (arith, h .ensures .1) }, m .ensures .1)
-
-toned-requires : tie.Need-toned-requires
-toned-requires c κs = search needs
-
-toned-requires-2 : tie.Need-toned-requires-2
-toned-requires-2 c κs = search needs
-
-toned-requires-3 : tie.Need-toned-requires-3
-toned-requires-3 c κs = search needs
 
 matrixed-requires : tie.Need-matrixed-requires
 matrixed-requires c κs =
@@ -80,13 +59,13 @@ pub basis-three-spec : {M : Type 1} → statement M
 basis-three-spec =
     tie.close
     (tie.spec
-    wide-requires
-    wide-requires-2
-    wide-requires-3
-    first-centre-requires
+    (λ c κs. search needs)
+    (λ c κs. search needs)
+    (λ c κs. search needs)
+    (λ c κs. search needs)
     recolour-requires
-    toned-requires
-    toned-requires-2
-    toned-requires-3
+    (λ c κs. search needs)
+    (λ c κs. search needs)
+    (λ c κs. search needs)
     matrixed-requires
     returns)

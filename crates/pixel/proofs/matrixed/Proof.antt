@@ -7,21 +7,6 @@ use Rattle.pixel.specs.Steps.{matrixed, stepThree}
 use Rattle.pixel.proofs.matrixed.Statement.{statement}
 use Rattle.pixel.proofs.matrixed.Tie as tie
 
-enum-told : tie.Need-enum-told
-enum-told c = search needs
-
-enum-told-2 : tie.Need-enum-told-2
-enum-told-2 c = search needs
-
-weighted-requires : tie.Need-weighted-requires
-weighted-requires c κs = search needs
-
-weighted-requires-2 : tie.Need-weighted-requires-2
-weighted-requires-2 c κs = search needs
-
-weighted-requires-3 : tie.Need-weighted-requires-3
-weighted-requires-3 c κs = search needs
-
 returns : tie.Need-returns
 unfolding matrixed stepThree
 returns c =
@@ -41,10 +26,10 @@ pub matrixed-spec : {M : Type 1} → statement M
 matrixed-spec =
     tie.close
     (tie.spec
-    enum-told
-    enum-told-2
-    weighted-requires
-    weighted-requires-2
-    weighted-requires-3
+    (λ c. search needs)
+    (λ c. search needs)
+    (λ c κs. search needs)
+    (λ c κs. search needs)
+    (λ c κs. search needs)
     returns
     returns-2)

@@ -7,15 +7,6 @@ use Rattle.pixel.specs.Steps.{recolour}
 use Rattle.pixel.proofs.recolour.Statement.{statement}
 use Rattle.pixel.proofs.recolour.Tie as tie
 
-enum-told : tie.Need-enum-told
-enum-told c = search needs
-
-enum-told-2 : tie.Need-enum-told-2
-enum-told-2 c = search needs
-
-transform-requires : tie.Need-transform-requires
-transform-requires c κs = search needs
-
 returns : tie.Need-returns
 unfolding recolour
 returns c =
@@ -27,4 +18,4 @@ unfolding recolour
 returns-2 c = (rw (c .before .enum-told2 .given .1) (c .transform .ensures .0 ∙ rw (toZ-ofZ (c .before .before .before .fits .centre))), c .transform .ensures .1)
 
 pub recolour-spec : {M : Type 1} → statement M
-recolour-spec = tie.close (tie.spec enum-told enum-told-2 transform-requires returns returns-2)
+recolour-spec = tie.close (tie.spec (λ c. search needs) (λ c. search needs) (λ c κs. search needs) returns returns-2)

@@ -9,21 +9,6 @@ use Rattle.pixel.specs.Steps.{recolour, stepFour}
 use Rattle.pixel.proofs.residual_three.Statement.{statement}
 use Rattle.pixel.proofs.residual_three.Tie as tie
 
-scaled-requires : tie.Need-scaled-requires
-scaled-requires c κs = search needs
-
-scaled-requires-2 : tie.Need-scaled-requires-2
-scaled-requires-2 c κs = search needs
-
-scaled-requires-3 : tie.Need-scaled-requires-3
-scaled-requires-3 c κs = search needs
-
-centre-of-requires : tie.Need-centre-of-requires
-centre-of-requires c κs = search needs
-
-recolour-requires : tie.Need-recolour-requires
-recolour-requires c κs = search needs
-
 returns : tie.Need-returns
 unfolding stepFour each
 returns c =
@@ -38,9 +23,9 @@ pub residual-three-spec : {M : Type 1} → statement M
 residual-three-spec =
     tie.close
     (tie.spec
-    scaled-requires
-    scaled-requires-2
-    scaled-requires-3
-    centre-of-requires
-    recolour-requires
+    (λ c κs. search needs)
+    (λ c κs. search needs)
+    (λ c κs. search needs)
+    (λ c κs. search needs)
+    (λ c κs. search needs)
     returns)

@@ -15,21 +15,6 @@ use Rattle.pixel.proofs.Laws.{scaled-sixteenths, sixteenths-below, scal
 use Rattle.pixel.proofs.scaled.Statement.{statement}
 use Rattle.pixel.proofs.scaled.Tie as tie
 
-add-power : tie.Need-add-power
-add-power c = search needs
-
-sub-power : tie.Need-sub-power
-sub-power c = search needs
-
-power-requires : tie.Need-power-requires
-power-requires c κs = search needs
-
-wide-count-requires : tie.Need-wide-count-requires
-wide-count-requires c κs = search needs
-
-wide-requires : tie.Need-wide-requires
-wide-requires c κs = search needs
-
 module _ (c : tie.After-wide) where
   start : tie.Start
   start = c .before .before .before
@@ -81,11 +66,11 @@ pub scaled-spec : {M : Type 1} → statement M
 scaled-spec =
     tie.close
     (tie.spec
-    add-power
-    sub-power
-    power-requires
-    wide-count-requires
-    wide-requires
+    (λ c. search needs)
+    (λ c. search needs)
+    (λ c κs. search needs)
+    (λ c κs. search needs)
+    (λ c κs. search needs)
     mul-sixteenths
     nearest-requires
     returns)

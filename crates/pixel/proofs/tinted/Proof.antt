@@ -10,9 +10,6 @@ use Rattle.pixel.specs.Steps.{tinted}
 use Rattle.pixel.proofs.tinted.Statement.{statement}
 use Rattle.pixel.proofs.tinted.Tie as tie
 
-row-requires : tie.Need-row-requires
-row-requires c κs = search needs
-
 nearest-requires : tie.Need-nearest-requires
 nearest-requires c κs = rw (back w64 (c .row .result) (c .row .ok)) (omega (arith, c .row .ensures .1), omega arith)
 
@@ -28,4 +25,4 @@ returns c =
     )
 
 pub tinted-spec : {M : Type 1} → statement M
-tinted-spec = tie.close (tie.spec row-requires nearest-requires returns)
+tinted-spec = tie.close (tie.spec (λ c κs. search needs) nearest-requires returns)

@@ -11,12 +11,6 @@ use Rattle.curves.specs.Curves.{curved}
 use Rattle.pixel.proofs.toned.Statement.{statement}
 use Rattle.pixel.proofs.toned.Tie as tie
 
-top-of-requires : tie.Need-top-of-requires
-top-of-requires c κs = search needs
-
-clip-requires : tie.Need-clip-requires
-clip-requires c κs = search needs
-
 is-clip : (c : tie.After-clip) → c .clip .result ≡ clip (c .before .before .before .args .v) (top (c .before .before .before .args .s .rh))
 is-clip c =
     let s = c .before .before .before in
@@ -34,4 +28,4 @@ returns c =
     rw (back w64 (r .result) (r .ok)) (r .ensures .0 ∙ ap (curved (s .s .curve) (s .s .rb) (s .s .rh) (s .table .now)) (is-clip (c .before)), r .ensures .1)
 
 pub toned-spec : {M : Type 1} → statement M
-toned-spec = tie.close (tie.spec top-of-requires clip-requires curved-requires returns)
+toned-spec = tie.close (tie.spec (λ c κs. search needs) (λ c κs. search needs) curved-requires returns)

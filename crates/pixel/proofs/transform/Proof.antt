@@ -12,12 +12,6 @@ use Rattle.pixel.specs.Steps.{transform, tints}
 use Rattle.pixel.proofs.transform.Statement.{statement}
 use Rattle.pixel.proofs.transform.Tie as tie
 
-less-requires : tie.Need-less-requires
-less-requires c κs = search needs
-
-less-requires-2 : tie.Need-less-requires-2
-less-requires-2 c κs = search needs
-
 -- what the three calls of `tinted` are given, read back
 module _ (c : tie.After-less2) where
   start : tie.Start
@@ -77,8 +71,8 @@ pub transform-spec : {M : Type 1} → statement M
 transform-spec =
     tie.close
     (tie.spec
-    less-requires
-    less-requires-2
+    (λ c κs. search needs)
+    (λ c κs. search needs)
     tinted-requires
     tinted-requires-2
     tinted-requires-3

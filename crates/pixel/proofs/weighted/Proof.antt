@@ -14,39 +14,6 @@ use Rattle.pixel.specs.Steps.{weighted}
 use Rattle.pixel.proofs.weighted.Statement.{statement}
 use Rattle.pixel.proofs.weighted.Tie as tie
 
-mul-wide-weight : tie.Need-mul-wide-weight
-mul-wide-weight c = search needs
-
-array-copy-out-wide-weight : tie.Need-array-copy-out-wide-weight
-array-copy-out-wide-weight c = search needs
-
-wide-weight-requires : tie.Need-wide-weight-requires
-wide-weight-requires c κs = search needs
-
-add-wide-weight : tie.Need-add-wide-weight
-add-wide-weight c = search needs
-
-mul-wide-weight-2 : tie.Need-mul-wide-weight-2
-mul-wide-weight-2 c = search needs
-
-array-copy-out-wide-weight-2 : tie.Need-array-copy-out-wide-weight-2
-array-copy-out-wide-weight-2 c = search needs
-
-wide-weight-requires-2 : tie.Need-wide-weight-requires-2
-wide-weight-requires-2 c κs = search needs
-
-add-wide-weight-2 : tie.Need-add-wide-weight-2
-add-wide-weight-2 c = search needs
-
-mul-wide-weight-3 : tie.Need-mul-wide-weight-3
-mul-wide-weight-3 c = search needs
-
-array-copy-out-wide-weight-3 : tie.Need-array-copy-out-wide-weight-3
-array-copy-out-wide-weight-3 c = search needs
-
-wide-weight-requires-3 : tie.Need-wide-weight-requires-3
-wide-weight-requires-3 c κs = search needs
-
 -- what `row` is given, read back
 module _ (c : tie.After-struct-told3) where
   start : tie.Start
@@ -129,17 +96,17 @@ pub weighted-spec : {M : Type 1} → statement M
 weighted-spec =
     tie.close
     (tie.spec
-    mul-wide-weight
-    array-copy-out-wide-weight
-    wide-weight-requires
-    add-wide-weight
-    mul-wide-weight-2
-    array-copy-out-wide-weight-2
-    wide-weight-requires-2
-    add-wide-weight-2
-    mul-wide-weight-3
-    array-copy-out-wide-weight-3
-    wide-weight-requires-3
+    (λ c. search needs)
+    (λ c. search needs)
+    (λ c κs. search needs)
+    (λ c. search needs)
+    (λ c. search needs)
+    (λ c. search needs)
+    (λ c κs. search needs)
+    (λ c. search needs)
+    (λ c. search needs)
+    (λ c. search needs)
+    (λ c κs. search needs)
     row-requires
     nearest-requires
     returns)

@@ -10,12 +10,6 @@ use borrow.Author.Needs.{needs}
 use Rattle.plane_vectors.proofs.lowered.Statement.{statement}
 use Rattle.plane_vectors.proofs.lowered.Tie as tie
 
-cast-result : tie.Need-cast-result
-cast-result c = search needs
-
-cast-result-2 : tie.Need-cast-result-2
-cast-result-2 c = search needs
-
 sub-result : tie.Need-sub-result
 sub-result c =
     let a = c .before .before .args in
@@ -23,15 +17,6 @@ sub-result c =
     let y : toZ w32 (a .above) ≡ pos (a .above) = toZ-pos w32 (omega arith) in
     rw (x, y) (fit w32 (omega (arith, abs-sum (pos (a .x)) (negℤ (pos (a .above))), abs-neg (pos (a .above)))))
 
-returns : tie.Need-returns
-returns c = search needs
-
-returns-2 : tie.Need-returns-2
-returns-2 c = search needs
-
-returns-3 : tie.Need-returns-3
-returns-3 c = search needs
-
 pub lowered-spec : {M : Type 1} → statement M
 lowered-spec =
-    tie.close (tie.spec cast-result cast-result-2 sub-result returns returns-2 returns-3)
+    tie.close (tie.spec (λ c. search needs) (λ c. search needs) sub-result (λ c. search needs) (λ c. search needs) (λ c. search needs))

@@ -5,20 +5,8 @@ use borrow.Author.Needs.{needs}
 use Rattle.planes.proofs.close_plane.Statement.{statement}
 use Rattle.planes.proofs.close_plane.Tie as tie
 
-enum-known-ran : tie.Need-enum-known-ran
-enum-known-ran c = search needs
-
-enum-known-ran-2 : tie.Need-enum-known-ran-2
-enum-known-ran-2 c = search needs
-
-only-padding-requires : tie.Need-only-padding-requires
-only-padding-requires c κs = search needs
-
 returns : tie.Need-returns
 returns c = closes-given (c .before .before .before .ran2 .given .1) (sym (c .before .only-padding .ensures) ∙ c .if1 .taken)
-
-refuse-requires : tie.Need-refuse-requires
-refuse-requires c κs = search needs
 
 returns-2 : tie.Need-returns-2
 returns-2 c = closes-broken (c .before .ran .given .1)
@@ -30,10 +18,10 @@ pub close-plane-spec : {M : Type 1} → statement M
 close-plane-spec =
     tie.close
     (tie.spec
-    enum-known-ran
-    enum-known-ran-2
-    only-padding-requires
+    (λ c. search needs)
+    (λ c. search needs)
+    (λ c κs. search needs)
     returns
-    refuse-requires
+    (λ c κs. search needs)
     returns-2
     returns-3)

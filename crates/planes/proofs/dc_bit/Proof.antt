@@ -1,5 +1,4 @@
 -- `planes::dc_bit` meets its contract. Assumes nothing.
-use mathlib.Core.Path.{_∙_}
 use mir.Facts.{toZ-ofZ}
 use Rattle.laws.proofs.Integers.{half-fits}
 use Rattle.planes.proofs.DcWriting.{rest-fits, low-bit}

@@ -1,8 +1,6 @@
 -- `planes::new_dc` meets its contract: no intermediate leaves 32 bits. Assumes nothing.
 use mathlib.Core.Path.{_≡_}
-use mathlib.Core.Bool.{Bool, true, false}
-use Prim.Native.Nat.{_≤_}
-use lib.IntN.{ℤ, pos, natAbs, _+ℤ_, _*ℤ_}
+use lib.IntN.{pos, _+ℤ_, _*ℤ_}
 use mir.Syntax.{w32}
 use mir.Val.{SFits, toZ}
 use mir.Facts.{toZ-pos}
@@ -27,9 +25,6 @@ bit-read c = toZ-pos w32 (omega (arith, bin-small (c .args .bit)))
 mul-result : tie.Need-mul-result
 mul-result c = let h = double c in search needs
 
-cast-result : tie.Need-cast-result
-cast-result c = search needs
-
 add-result : tie.Need-add-result
 add-result c =
     let h = double c in
@@ -44,4 +39,4 @@ returns c =
     search (needs, bit-read c)
 
 pub new-dc-spec : {M : Type 1} → statement M
-new-dc-spec = tie.close (tie.spec mul-result cast-result add-result returns)
+new-dc-spec = tie.close (tie.spec mul-result (λ c. search needs) add-result returns)

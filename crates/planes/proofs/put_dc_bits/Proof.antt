@@ -1,5 +1,5 @@
 -- `planes::put_dc_bits` meets its contract: the bits still to put come to what all of them come to. Assumes nothing.
-use mathlib.Core.Path.{_≡_, refl, sym, ap, _∙_}
+use mathlib.Core.Path.{_≡_, refl, ap, _∙_}
 use mathlib.Core.List.{map}
 use Prim.Native.Nat.{_≤_, _-_}
 use lib.IntN.{pos}
@@ -23,26 +23,11 @@ abbrev μ-loop : tie.MeasureT-loop
 loop-holds : tie.Need-loop-holds Inv-loop μ-loop
 loop-holds c = (search needs, refl, going-start fresh-sound)
 
-mul-dc-bit : tie.Need-mul-dc-bit Inv-loop μ-loop
-mul-dc-bit c = search needs
-
-shared-slice-copy-out-dc-bit : tie.Need-shared-slice-copy-out-dc-bit Inv-loop μ-loop
-shared-slice-copy-out-dc-bit c = search needs
-
-dc-bit-requires : tie.Need-dc-bit-requires Inv-loop μ-loop
-dc-bit-requires c κs = search needs
-
 put-bit-requires : tie.Need-put-bit-requires Inv-loop μ-loop
 put-bit-requires c κs =
     let v = c .before .before .before .before .loop in
     let a = c .before .before .before .before .before .before in
     (v .inv .2 .sound, omega (arith, v .inv .2 .near, length-map (a .args .values .now) dcBit, a .pre))
-
-add-i : tie.Need-add-i Inv-loop μ-loop
-add-i c = search needs
-
-loop-less : tie.Need-loop-less Inv-loop μ-loop
-loop-less c = search needs
 
 loop-again : tie.Need-loop-again Inv-loop μ-loop
 loop-again c =
@@ -64,12 +49,12 @@ put-dc-bits-spec =
     Inv-loop
     μ-loop
     loop-holds
-    mul-dc-bit
-    shared-slice-copy-out-dc-bit
-    dc-bit-requires
+    (λ c. search needs)
+    (λ c. search needs)
+    (λ c κs. search needs)
     put-bit-requires
-    add-i
-    loop-less
+    (λ c. search needs)
+    (λ c. search needs)
     loop-again
     same-length
     returns)

@@ -1,6 +1,6 @@
 -- `planes::read_dc_blocks` meets its contract: what is left to read, behind the values read so far, is the whole. Assumes nothing.
 use mathlib.Core.Path.{_≡_, sym, ap, _∙_}
-use Prim.Native.Nat.{_≤_, _-_}
+use Prim.Native.Nat.{_-_}
 use lib.IntN.{pos}
 use lib.ListN.{length, getD}
 use mir.Syntax.{w32}
@@ -23,12 +23,6 @@ abbrev μ-loop : tie.MeasureT-loop
 loop-holds : tie.Need-loop-holds Inv-loop μ-loop
 loop-holds c = now-first
 
-take-bit-requires : tie.Need-take-bit-requires Inv-loop μ-loop
-take-bit-requires c κs = search needs
-
-enum-known-t : tie.Need-enum-known-t Inv-loop μ-loop
-enum-known-t c = search needs
-
 -- what the code learns of the bit that it took
 took : (c : tie.After-t Inv-loop μ-loop)
     → takeBit (sourceOf (c .before .before .before .before .before .before .args .«data» .now) (c .before .before .before .before .loop .c)) ≡ got (c .t .given .0 .0) (sourceOf (c .before .before .before .before .before .before .args .«data» .now) (c .t .given .0 .1 .0))
@@ -40,23 +34,8 @@ old : (c : tie.After-new-dc-arg Inv-loop μ-loop)
     → toZ w32 (ofZ w32 (getD (c .before .before .before .before .before .before .before .before .args .values .now) (c .before .before .before .before .before .before .loop .i) (pos 0))) ≡ getD (c .before .before .before .before .before .before .before .before .args .values .now) (c .before .before .before .before .before .before .loop .i) (pos 0)
 old c = back w32 _ (c .new-dc-arg .given)
 
-mul-new-dc : tie.Need-mul-new-dc Inv-loop μ-loop
-mul-new-dc c = search needs
-
-shared-slice-copy-out-new-dc : tie.Need-shared-slice-copy-out-new-dc Inv-loop μ-loop
-shared-slice-copy-out-new-dc c = search needs
-
 new-dc-requires : tie.Need-new-dc-requires Inv-loop μ-loop
 new-dc-requires c κs = rw (old c) (c .before .before .before .before .before .before .before .before .pre .0 _)
-
-mul-t15 : tie.Need-mul-t15 Inv-loop μ-loop
-mul-t15 c = search needs
-
-slice-set-from-destination : tie.Need-slice-set-from-destination Inv-loop μ-loop
-slice-set-from-destination c = search needs
-
-enum-told : tie.Need-enum-told Inv-loop μ-loop
-enum-told c = search needs
 
 same-length : tie.Need-same-length Inv-loop μ-loop
 same-length c = c .before .before .before .before .loop .inv .long
@@ -65,21 +44,12 @@ returns : tie.Need-returns Inv-loop μ-loop
 unfolding takenOf
 returns c = now-stopped (c .before .before .before .before .loop .inv) (c .before .before .before .loop-test .taken) (sym (c .before .before .take-bit .ensures) ∙ ap (takenOf _) (c .enum-told .given .1))
 
-enum-told-2 : tie.Need-enum-told-2 Inv-loop μ-loop
-enum-told-2 c = search needs
-
 same-length-2 : tie.Need-same-length-2 Inv-loop μ-loop
 same-length-2 c = c .before .before .before .before .loop .inv .long
 
 returns-2 : tie.Need-returns-2 Inv-loop μ-loop
 unfolding takenOf
 returns-2 c = now-stopped (c .before .before .before .before .loop .inv) (c .before .before .before .loop-test .taken) (sym (c .before .before .take-bit .ensures) ∙ ap (takenOf _) (c .enum-told2 .given .1))
-
-add-i : tie.Need-add-i Inv-loop μ-loop
-add-i c = search needs
-
-loop-less : tie.Need-loop-less Inv-loop μ-loop
-loop-less c = search needs
 
 -- the new value, as it is stored
 stored : (c : tie.After-new-dc Inv-loop μ-loop)
@@ -104,21 +74,21 @@ read-dc-blocks-spec =
     Inv-loop
     μ-loop
     loop-holds
-    take-bit-requires
-    enum-known-t
-    mul-new-dc
-    shared-slice-copy-out-new-dc
+    (λ c κs. search needs)
+    (λ c. search needs)
+    (λ c. search needs)
+    (λ c. search needs)
     new-dc-requires
-    mul-t15
-    slice-set-from-destination
-    enum-told
+    (λ c. search needs)
+    (λ c. search needs)
+    (λ c. search needs)
     same-length
     returns
-    enum-told-2
+    (λ c. search needs)
     same-length-2
     returns-2
-    add-i
-    loop-less
+    (λ c. search needs)
+    (λ c. search needs)
     loop-again
     same-length-3
     returns-3)

@@ -1,8 +1,6 @@
 -- `planes::try_read_dc` meets its contract: the refusals in their order. Assumes nothing.
-use mathlib.Core.Path.{_≡_, sym, ap, _∙_}
-use mathlib.Core.Bool.{true, false}
-use Prim.Native.Nat.{_-_, _≤_}
-use lib.ListN.{length}
+use mathlib.Core.Path.{_≡_, sym, _∙_}
+use mathlib.Core.Bool.{true}
 use borrow.Author.Tests.{not-true, not-false, eq-eqb, ne-eqb, le-leb, lt-leb}
 use Rattle.laws.specs.Index.{every}
 use Rattle.answers.proofs.Laws.{tried-refused}
@@ -16,18 +14,9 @@ use borrow.Author.Needs.{needs}
 use Rattle.planes.proofs.try_read_dc.Statement.{statement}
 use Rattle.planes.proofs.try_read_dc.Tie as tie
 
-in-ranges-requires : tie.Need-in-ranges-requires
-in-ranges-requires c κs = search needs
-
-refuse-requires : tie.Need-refuse-requires
-refuse-requires c κs = search needs
-
 returns : tie.Need-returns
 unfolding readDc
 returns c = tried-refused (c .refuse .ensures) (rw (sym (c .before .before .in-ranges .ensures) ∙ not-true _ (c .before .if1 .taken)))
-
-refuse-requires-2 : tie.Need-refuse-requires-2
-refuse-requires-2 c κs = search needs
 
 -- the counts are good
 counts : (c : tie.Else1) → every (readable (c .before .before .before .args .plane) (c .before .before .before .args .blocks)) ≡ true
@@ -43,29 +32,14 @@ returns-2 c = tried-refused (c .refuse2 .ensures) (rw (counts (c .before .before
 sub-level : tie.Need-sub-level
 sub-level c = let r = good (c .before) in omega arith
 
-cast-level : tie.Need-cast-level
-cast-level c = search needs
-
 first-outside-requires : tie.Need-first-outside-requires
 first-outside-requires c κs = let r = good (c .before) in omega arith
-
-enum-known-i : tie.Need-enum-known-i
-enum-known-i c = search needs
-
-refuse-requires-3 : tie.Need-refuse-requires-3
-refuse-requires-3 c κs = search needs
 
 returns-3 : tie.Need-returns-3
 unfolding readDc
 returns-3 c =
     let f = c .before .before .before .before in
     tried-refused (c .refuse3 .ensures) (rw (counts (f .before .before), eq-eqb _ _ (f .before .if2 .left), sym (f .first-outside .ensures) ∙ c .before .before .i .given .1))
-
-enum-told : tie.Need-enum-told
-enum-told c = search needs
-
-refuse-requires-4 : tie.Need-refuse-requires-4
-refuse-requires-4 c κs = search needs
 
 returns-4 : tie.Need-returns-4
 unfolding readDc
@@ -80,12 +54,6 @@ read-dc-blocks-requires c κs =
     let r = good (f .before .before) in
     (all-small _ _ _ (omega arith) (sym (f .first-outside .ensures) ∙ c .before .before .enum-told .given .1), omega arith)
 
-close-plane-requires : tie.Need-close-plane-requires
-close-plane-requires c κs = search needs
-
-same-length : tie.Need-same-length
-same-length c = search needs
-
 returns-5 : tie.Need-returns-5
 unfolding readDc
 returns-5 c =
@@ -98,21 +66,21 @@ pub try-read-dc-spec : {M : Type 1} → statement M
 try-read-dc-spec =
     tie.close
     (tie.spec
-    in-ranges-requires
-    refuse-requires
+    (λ c κs. search needs)
+    (λ c κs. search needs)
     returns
-    refuse-requires-2
+    (λ c κs. search needs)
     returns-2
     sub-level
-    cast-level
+    (λ c. search needs)
     first-outside-requires
-    enum-known-i
-    refuse-requires-3
+    (λ c. search needs)
+    (λ c κs. search needs)
     returns-3
-    enum-told
-    refuse-requires-4
+    (λ c. search needs)
+    (λ c κs. search needs)
     returns-4
     read-dc-blocks-requires
-    close-plane-requires
-    same-length
+    (λ c κs. search needs)
+    (λ c. search needs)
     returns-5)

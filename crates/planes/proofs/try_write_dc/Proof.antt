@@ -1,8 +1,7 @@
 -- `planes::try_write_dc` meets its contract: the refusals in their order. Assumes nothing.
-use mathlib.Core.Path.{_≡_, sym, ap, _∙_}
-use mathlib.Core.Bool.{true, false}
-use Prim.Native.Nat.{_≤_}
-use lib.ListN.{length, length-map}
+use mathlib.Core.Path.{_≡_, sym, _∙_}
+use mathlib.Core.Bool.{true}
+use lib.ListN.{length-map}
 use borrow.Author.Tests.{not-true, not-false, eq-eqb, ne-eqb}
 use Rattle.laws.specs.Index.{every}
 use Rattle.answers.proofs.Laws.{tried-refused, fitting-given, fitting-short}
@@ -15,18 +14,9 @@ use borrow.Author.Needs.{needs}
 use Rattle.planes.proofs.try_write_dc.Statement.{statement}
 use Rattle.planes.proofs.try_write_dc.Tie as tie
 
-in-written-ranges-requires : tie.Need-in-written-ranges-requires
-in-written-ranges-requires c κs = search needs
-
-refuse-requires : tie.Need-refuse-requires
-refuse-requires c κs = search needs
-
 returns : tie.Need-returns
 unfolding writeDc
 returns c = tried-refused (c .refuse .ensures) (rw (sym (c .before .before .in-written-ranges .ensures) ∙ not-true _ (c .before .if1 .taken)))
-
-refuse-requires-2 : tie.Need-refuse-requires-2
-refuse-requires-2 c κs = search needs
 
 -- the counts are good
 counts : (c : tie.Else1) → every (writable (c .before .before .before .args .plane) (c .before .before .before .args .blocks)) ≡ true
@@ -42,20 +32,11 @@ returns-2 c = tried-refused (c .refuse2 .ensures) (rw (counts (c .before .before
 first-outside-requires : tie.Need-first-outside-requires
 first-outside-requires c κs = let r = good (c .before) in omega arith
 
-enum-known-i : tie.Need-enum-known-i
-enum-known-i c = search needs
-
-refuse-requires-3 : tie.Need-refuse-requires-3
-refuse-requires-3 c κs = search needs
-
 returns-3 : tie.Need-returns-3
 unfolding writeDc
 returns-3 c =
     let f = c .before .before .before .before in
     tried-refused (c .refuse3 .ensures) (rw (counts (f .before .before), eq-eqb _ _ (f .before .if2 .left), sym (f .first-outside .ensures) ∙ c .before .before .i .given .1))
-
-enum-told : tie.Need-enum-told
-enum-told c = search needs
 
 put-dc-bits-requires : tie.Need-put-dc-bits-requires
 put-dc-bits-requires c κs = let r = good (c .before .before .before .before .before) in omega arith
@@ -67,12 +48,6 @@ put-end-requires c κs =
     let r = good (f .before .before) in
     (p .sound, omega (arith, p .near, length-map (f .before .before .before .before .before .args .values .now) dcBit))
 
-refuse-requires-4 : tie.Need-refuse-requires-4
-refuse-requires-4 c κs = search needs
-
-same-length : tie.Need-same-length
-same-length c = search needs
-
 returns-4 : tie.Need-returns-4
 unfolding writeDc
 returns-4 c =
@@ -80,9 +55,6 @@ returns-4 c =
     let v = f .before .before .before .before .before .args .values .now in
     rw (counts (f .before .before), eq-eqb _ _ (f .before .if2 .left), sym (f .first-outside .ensures) ∙ c .before .before .before .before .before .before .before .before .before .before .enum-told .given .1)
     (fitting-short _ (dcBytes v) (all-counted (c .before .before .before .before .before .before .before .before .put-dc-bits .ensures) (c .before .before .before .before .put-end .ensures)) (omega arith) (c .refuse4 .ensures))
-
-same-length-2 : tie.Need-same-length-2
-same-length-2 c = search needs
 
 returns-5 : tie.Need-returns-5
 unfolding writeDc
@@ -98,20 +70,20 @@ pub try-write-dc-spec : {M : Type 1} → statement M
 try-write-dc-spec =
     tie.close
     (tie.spec
-    in-written-ranges-requires
-    refuse-requires
+    (λ c κs. search needs)
+    (λ c κs. search needs)
     returns
-    refuse-requires-2
+    (λ c κs. search needs)
     returns-2
     first-outside-requires
-    enum-known-i
-    refuse-requires-3
+    (λ c. search needs)
+    (λ c κs. search needs)
     returns-3
-    enum-told
+    (λ c. search needs)
     put-dc-bits-requires
     put-end-requires
-    refuse-requires-4
-    same-length
+    (λ c κs. search needs)
+    (λ c. search needs)
     returns-4
-    same-length-2
+    (λ c. search needs)
     returns-5)

@@ -11,15 +11,9 @@ returns : tie.Need-returns
 unfolding barred every
 returns c = rw (not-true (c .before .args .named) (c .if1 .taken))
 
-in-ranges-requires : tie.Need-in-ranges-requires
-in-ranges-requires c κs = search needs
-
 returns-2 : tie.Need-returns-2
 unfolding barred every
 returns-2 c = rw (not-false (c .before .before .before .args .named) (c .before .before .if1 .left), sym (c .before .in-ranges .ensures) ∙ not-true _ (c .if2 .taken))
-
-plain-requires : tie.Need-plain-requires
-plain-requires c κs = search needs
 
 returns-3 : tie.Need-returns-3
 unfolding barred every
@@ -27,18 +21,12 @@ returns-3 c =
     let b = c .before .before in
     rw (not-false (c .before .before .before .before .before .args .named) (b .before .before .if1 .left), sym (b .before .in-ranges .ensures) ∙ not-false _ (b .if2 .left), sym (c .before .plain .ensures) ∙ not-true _ (c .if3 .taken))
 
-srgb-allowed-requires : tie.Need-srgb-allowed-requires
-srgb-allowed-requires c κs = search needs
-
 returns-4 : tie.Need-returns-4
 unfolding barred every
 returns-4 c =
     let d = c .before .before in
     let b = d .before .before in
     rw (not-false (c .before .before .before .before .before .before .before .args .named) (b .before .before .if1 .left), sym (b .before .in-ranges .ensures) ∙ not-false _ (b .if2 .left), sym (d .before .plain .ensures) ∙ not-false _ (d .if3 .left), sym (c .before .srgb-allowed .ensures) ∙ not-true _ (c .if4 .taken))
-
-matrix-count-requires : tie.Need-matrix-count-requires
-matrix-count-requires c κs = search needs
 
 returns-5 : tie.Need-returns-5
 unfolding barred every
@@ -61,12 +49,12 @@ barred-spec =
     tie.close
     (tie.spec
     returns
-    in-ranges-requires
+    (λ c κs. search needs)
     returns-2
-    plain-requires
+    (λ c κs. search needs)
     returns-3
-    srgb-allowed-requires
+    (λ c κs. search needs)
     returns-4
-    matrix-count-requires
+    (λ c κs. search needs)
     returns-5
     returns-6)

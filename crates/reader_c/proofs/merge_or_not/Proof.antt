@@ -6,26 +6,11 @@ use borrow.Author.Needs.{needs}
 use Rattle.reader_c.proofs.merge_or_not.Statement.{statement}
 use Rattle.reader_c.proofs.merge_or_not.Tie as tie
 
-barred-requires : tie.Need-barred-requires
-barred-requires c κs = search needs
-
-clear-u16-requires : tie.Need-clear-u16-requires
-clear-u16-requires c κs = search needs
-
-same-length : tie.Need-same-length
-same-length c = search needs
-
 returns : tie.Need-returns
 unfolding mergeCall
 returns c =
     rw (← (c .before .before .before .before .before .barred .ensures), ne-eqb _ _ (c .before .before .before .before .if1 .taken))
     (record { answered = refl; held = c .before .before .clear-u16 .ensures })
-
-merge-requires : tie.Need-merge-requires
-merge-requires c κs = search needs
-
-same-length-2 : tie.Need-same-length-2
-same-length-2 c = search needs
 
 returns-2 : tie.Need-returns-2
 unfolding mergeCall
@@ -35,10 +20,10 @@ pub merge-or-not-spec : {M : Type 1} → statement M
 merge-or-not-spec =
     tie.close
     (tie.spec
-    barred-requires
-    clear-u16-requires
-    same-length
+    (λ c κs. search needs)
+    (λ c κs. search needs)
+    (λ c. search needs)
     returns
-    merge-requires
-    same-length-2
+    (λ c κs. search needs)
+    (λ c. search needs)
     returns-2)

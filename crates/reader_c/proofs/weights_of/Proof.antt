@@ -13,33 +13,6 @@ returns : tie.Need-returns
 unfolding weightsOf
 returns c = rw (lt-ltb _ _ (c .if1 .taken))
 
-shared-slice-copy-out-t5 : tie.Need-shared-slice-copy-out-t5
-shared-slice-copy-out-t5 c = search needs
-
-shared-slice-copy-out-t7 : tie.Need-shared-slice-copy-out-t7
-shared-slice-copy-out-t7 c = search needs
-
-shared-slice-copy-out-t9 : tie.Need-shared-slice-copy-out-t9
-shared-slice-copy-out-t9 c = search needs
-
-shared-slice-copy-out-t11 : tie.Need-shared-slice-copy-out-t11
-shared-slice-copy-out-t11 c = search needs
-
-shared-slice-copy-out-t13 : tie.Need-shared-slice-copy-out-t13
-shared-slice-copy-out-t13 c = search needs
-
-shared-slice-copy-out-t15 : tie.Need-shared-slice-copy-out-t15
-shared-slice-copy-out-t15 c = search needs
-
-shared-slice-copy-out-t17 : tie.Need-shared-slice-copy-out-t17
-shared-slice-copy-out-t17 c = search needs
-
-shared-slice-copy-out-t19 : tie.Need-shared-slice-copy-out-t19
-shared-slice-copy-out-t19 c = search needs
-
-shared-slice-copy-out-t21 : tie.Need-shared-slice-copy-out-t21
-shared-slice-copy-out-t21 c = search needs
-
 returns-2 : tie.Need-returns-2
 unfolding weightsOf
 returns-2 c =
@@ -51,13 +24,13 @@ weights-of-spec =
     tie.close
     (tie.spec
     returns
-    shared-slice-copy-out-t5
-    shared-slice-copy-out-t7
-    shared-slice-copy-out-t9
-    shared-slice-copy-out-t11
-    shared-slice-copy-out-t13
-    shared-slice-copy-out-t15
-    shared-slice-copy-out-t17
-    shared-slice-copy-out-t19
-    shared-slice-copy-out-t21
+    (λ c. search needs)
+    (λ c. search needs)
+    (λ c. search needs)
+    (λ c. search needs)
+    (λ c. search needs)
+    (λ c. search needs)
+    (λ c. search needs)
+    (λ c. search needs)
+    (λ c. search needs)
     returns-2)

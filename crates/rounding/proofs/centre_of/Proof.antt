@@ -10,15 +10,6 @@ use Rattle.rounding.proofs.Laws.{centre-below}
 use Rattle.rounding.proofs.centre_of.Statement.{statement}
 use Rattle.rounding.proofs.centre_of.Tie as tie
 
-add-power : tie.Need-add-power
-add-power c = search needs
-
-power-requires : tie.Need-power-requires
-power-requires c κs = search needs
-
-wide-count-requires : tie.Need-wide-count-requires
-wide-count-requires c κs = search needs
-
 is-centre : (c : tie.After-wide-count) → toZ w64 (ofZ w64 (c .wide-count .result)) ≡ pos (2 ^ (7 + c .before .before .args .r))
 is-centre c = back w64 (c .wide-count .result) (c .wide-count .ok) ∙ c .wide-count .ensures ∙ ap pos (c .before .power .ensures)
 
@@ -26,4 +17,4 @@ returns : tie.Need-returns
 returns c = rw (is-centre c) (refl, centre-below (c .before .before .args .r) (c .before .before .pre))
 
 pub centre-of-spec : {M : Type 1} → statement M
-centre-of-spec = tie.close (tie.spec add-power power-requires wide-count-requires returns)
+centre-of-spec = tie.close (tie.spec (λ c. search needs) (λ c κs. search needs) (λ c κs. search needs) returns)

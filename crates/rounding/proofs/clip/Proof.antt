@@ -16,14 +16,8 @@ v-read c = toZ-ofZ (c .fits .v)
 most-read : (c : tie.Start) → toZ w64 (c .args .top) ≡ pos (c .args .top)
 most-read c = toZ-pos w64 (omega arith)
 
-cast-most : tie.Need-cast-most
-cast-most c = search needs
-
 returns : tie.Need-returns
 returns c = clip-low (c .before .args .v) (c .before .args .top) (rw (v-read (c .before)) at (c .if1 .taken))
-
-cast-result : tie.Need-cast-result
-cast-result c = search needs
 
 returns-2 : tie.Need-returns-2
 returns-2 c =
@@ -42,4 +36,4 @@ returns-3 : tie.Need-returns-3
 returns-3 c = rw (v-read (c .before .before)) (within c .same)
 
 pub clip-spec : {M : Type 1} → statement M
-clip-spec = tie.close (tie.spec cast-most returns cast-result returns-2 cast-result-2 returns-3)
+clip-spec = tie.close (tie.spec (λ c. search needs) returns (λ c. search needs) returns-2 cast-result-2 returns-3)

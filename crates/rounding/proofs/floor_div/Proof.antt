@@ -15,9 +15,6 @@ use borrow.Author.Needs.{needs}
 use Rattle.rounding.proofs.floor_div.Statement.{statement}
 use Rattle.rounding.proofs.floor_div.Tie as tie
 
-cast-d : tie.Need-cast-d
-cast-d c = search needs
-
 m-read : (c : tie.Start) → toZ w64 (c .args .m) ≡ pos (c .args .m)
 m-read c = toZ-pos w64 (omega arith)
 
@@ -77,4 +74,4 @@ returns-2 c = rw (z-read (c .before), m-read (c .before), floor-pos (c .before .
 
 pub floor-div-spec : {M : Type 1} → statement M
 floor-div-spec =
-    tie.close (tie.spec cast-d sub-result div-result sub-result-2 returns div-result-2 returns-2)
+    tie.close (tie.spec (λ c. search needs) sub-result div-result sub-result-2 returns div-result-2 returns-2)

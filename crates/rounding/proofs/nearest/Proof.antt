@@ -13,9 +13,6 @@ use Rattle.rounding.proofs.Laws.{nearest-floor, nearest-small}
 use Rattle.rounding.proofs.nearest.Statement.{statement}
 use Rattle.rounding.proofs.nearest.Tie as tie
 
-cast-floor-div : tie.Need-cast-floor-div
-cast-floor-div c = search needs
-
 half-read : (c : tie.Start) → toZ w64 (c .args .m / 2) ≡ pos (c .args .m / 2)
 half-read c = toZ-pos w64 (omega arith)
 
@@ -24,9 +21,6 @@ half-added c = fit w64 (omega (arith, abs-sum (c .args .t) (pos (c .args .m / 2)
 
 add-floor-div : tie.Need-add-floor-div
 add-floor-div c = rw (toZ-ofZ (c .fits .t), half-read c) (half-added c)
-
-floor-div-requires : tie.Need-floor-div-requires
-floor-div-requires c κs = search needs
 
 is-nearest : (c : tie.After-floor-div) → toZ w64 (ofZ w64 (c .floor-div .result)) ≡ nearest (c .before .args .t) (c .before .args .m)
 is-nearest c =
@@ -38,4 +32,4 @@ returns : tie.Need-returns
 returns c = rw (is-nearest c) (refl, nearest-small (c .before .args .t) (c .before .args .m) (c .before .pre .1))
 
 pub nearest-spec : {M : Type 1} → statement M
-nearest-spec = tie.close (tie.spec cast-floor-div add-floor-div floor-div-requires returns)
+nearest-spec = tie.close (tie.spec (λ c. search needs) add-floor-div (λ c κs. search needs) returns)

@@ -4,14 +4,8 @@ use Rattle.rounding.proofs.Laws.{power-at}
 use Rattle.rounding.proofs.power.Statement.{statement}
 use Rattle.rounding.proofs.power.Tie as tie
 
-mul-result : tie.Need-mul-result
-mul-result c = search needs
-
-array-read-result : tie.Need-array-read-result
-array-read-result c = search needs
-
 returns : tie.Need-returns
 returns c = power-at (c .args .k) (c .pre)
 
 pub power-spec : {M : Type 1} → statement M
-power-spec = tie.close (tie.spec mul-result array-read-result returns)
+power-spec = tie.close (tie.spec (λ c. search needs) (λ c. search needs) returns)

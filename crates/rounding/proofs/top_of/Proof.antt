@@ -7,12 +7,6 @@ use Rattle.rounding.proofs.Laws.{top-above, top-below}
 use Rattle.rounding.proofs.top_of.Statement.{statement}
 use Rattle.rounding.proofs.top_of.Tie as tie
 
-add-power : tie.Need-add-power
-add-power c = search needs
-
-power-requires : tie.Need-power-requires
-power-requires c κs = search needs
-
 sub-result : tie.Need-sub-result
 sub-result c = omega (arith, top-above (c .before .args .r) (c .before .pre))
 
@@ -20,4 +14,4 @@ returns : tie.Need-returns
 returns c = (ap (λ n. n - 1) (c .power .ensures), omega (arith, top-below (c .before .args .r) (c .before .pre)))
 
 pub top-of-spec : {M : Type 1} → statement M
-top-of-spec = tie.close (tie.spec add-power power-requires sub-result returns)
+top-of-spec = tie.close (tie.spec (λ c. search needs) (λ c κs. search needs) sub-result returns)

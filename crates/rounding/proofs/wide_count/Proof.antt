@@ -6,11 +6,8 @@ use mir.Facts.{toZ-pos}
 use Rattle.rounding.proofs.wide_count.Statement.{statement}
 use Rattle.rounding.proofs.wide_count.Tie as tie
 
-cast-result : tie.Need-cast-result
-cast-result c = search needs
-
 returns : tie.Need-returns
 returns c = toZ-pos w64 (omega arith)
 
 pub wide-count-spec : {M : Type 1} → statement M
-wide-count-spec = tie.close (tie.spec cast-result returns)
+wide-count-spec = tie.close (tie.spec (λ c. search needs) returns)

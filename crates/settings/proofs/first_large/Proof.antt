@@ -32,12 +32,6 @@ module _ (most : ℕ) (table : List ℕ) (i : ℕ) where
 loop-holds : tie.Need-loop-holds Inv-loop μ-loop
 loop-holds c = (omega arith, first-start _)
 
-mul-entry : tie.Need-mul-entry Inv-loop μ-loop
-mul-entry c = search needs
-
-shared-slice-read-entry : tie.Need-shared-slice-read-entry Inv-loop μ-loop
-shared-slice-read-entry c = search needs
-
 cast-entry : tie.Need-cast-entry Inv-loop μ-loop
 cast-entry c = omega (arith, c .shared-slice-known .given (c .before .before .loop .i))
 
@@ -46,12 +40,6 @@ returns c =
     let a = c .before .before .before .before .args in
     let l = c .before .before .before .loop in
     sym (first-found _ (length (a .table .now)) (l .i) (c .before .before .loop-test .taken) (l .inv .1) (large (a .most) (a .table .now) (l .i) (c .if1 .taken)))
-
-add-i : tie.Need-add-i Inv-loop μ-loop
-add-i c = search needs
-
-loop-less : tie.Need-loop-less Inv-loop μ-loop
-loop-less c = search needs
 
 loop-again : tie.Need-loop-again Inv-loop μ-loop
 loop-again c =
@@ -71,11 +59,11 @@ first-large-spec =
     Inv-loop
     μ-loop
     loop-holds
-    mul-entry
-    shared-slice-read-entry
+    (λ c. search needs)
+    (λ c. search needs)
     cast-entry
     returns
-    add-i
-    loop-less
+    (λ c. search needs)
+    (λ c. search needs)
     loop-again
     returns-2)

@@ -23,9 +23,6 @@ returns-4 : tie.Need-returns-4
 unfolding inRanges
 returns-4 c = sym (every-pass _ _ (le-leb _ _ (c .before .before .before .before .before .before .if1 .left)) ∙ every-pass _ _ (le-leb _ _ (c .before .before .before .before .if2 .left)) ∙ every-pass _ _ (le-leb _ _ (c .before .before .if3 .left)) ∙ every-stop _ _ (lt-leb _ _ (c .if4 .taken)))
 
-one-or-three-requires : tie.Need-one-or-three-requires
-one-or-three-requires c κs = search needs
-
 returns-5 : tie.Need-returns-5
 unfolding inRanges
 returns-5 c = sym (every-pass _ _ (le-leb _ _ (c .before .before .before .before .before .before .before .before .if1 .left)) ∙ every-pass _ _ (le-leb _ _ (c .before .before .before .before .before .before .if2 .left)) ∙ every-pass _ _ (le-leb _ _ (c .before .before .before .before .if3 .left)) ∙ every-pass _ _ (le-leb _ _ (c .before .before .if4 .left)) ∙ every-stop _ _ (sym (c .before .one-or-three .ensures) ∙ not-true _ (c .if5 .taken)))
@@ -37,4 +34,4 @@ returns-6 c = sym (every-pass _ _ (le-leb _ _ (c .before .before .before .before
 pub in-ranges-spec : {M : Type 1} → statement M
 in-ranges-spec =
     tie.close
-    (tie.spec returns returns-2 returns-3 returns-4 one-or-three-requires returns-5 returns-6)
+    (tie.spec returns returns-2 returns-3 returns-4 (λ c κs. search needs) returns-5 returns-6)

@@ -10,9 +10,6 @@ use borrow.Author.Needs.{needs}
 use Rattle.settings.proofs.lengths_right.Statement.{statement}
 use Rattle.settings.proofs.lengths_right.Tie as tie
 
-cast-count : tie.Need-cast-count
-cast-count c = search needs
-
 mul-count : tie.Need-mul-count
 mul-count c = record { fits = omega (arith, count-small (c .before .before .args .s .components) (c .before .before .args .pixels) (c .before .before .pre .components-right) (c .before .before .pre .pixels-few)) }
 
@@ -20,15 +17,9 @@ returns : tie.Need-returns
 unfolding lengthsRight
 returns c = sym (every-stop _ _ (ne-eqb _ _ (c .if1 .taken)))
 
-residual-count-requires : tie.Need-residual-count-requires
-residual-count-requires c κs = search needs
-
 returns-2 : tie.Need-returns-2
 unfolding lengthsRight
 returns-2 c = sym (every-pass _ _ (eq-eqb _ _ (c .before .before .if1 .left)) ∙ every-stop _ _ (ne-eqb _ _ (λ e. c .if2 .taken (e ∙ sym (c .before .residual-count .ensures)))))
-
-table-count-requires : tie.Need-table-count-requires
-table-count-requires c κs = search needs
 
 returns-3 : tie.Need-returns-3
 unfolding lengthsRight
@@ -38,10 +29,10 @@ pub lengths-right-spec : {M : Type 1} → statement M
 lengths-right-spec =
     tie.close
     (tie.spec
-    cast-count
+    (λ c. search needs)
     mul-count
     returns
-    residual-count-requires
+    (λ c κs. search needs)
     returns-2
-    table-count-requires
+    (λ c κs. search needs)
     returns-3)

@@ -12,22 +12,13 @@ returns : tie.Need-returns
 unfolding plain
 returns c = rw (ne-eqb (c .before .before .args .s .components) 1 (c .if1 .taken))
 
-is-transform-requires : tie.Need-is-transform-requires
-is-transform-requires c κs = search needs
-
 returns-2 : tie.Need-returns-2
 unfolding plain
 returns-2 c = rw (eq-eqb (c .before .before .before .before .args .s .components) 1 (c .before .before .if1 .left)) (sym (every-stop _ _ (ap not (sym (c .before .is-transform .ensures) ∙ c .if2 .taken))))
 
-is-transform-requires-2 : tie.Need-is-transform-requires-2
-is-transform-requires-2 c κs = search needs
-
 returns-3 : tie.Need-returns-3
 unfolding plain
 returns-3 c = rw (eq-eqb (c .before .before .before .before .before .before .args .s .components) 1 (c .before .before .before .before .if1 .left)) (sym (every-pass _ _ (ap not (sym (c .before .before .before .is-transform .ensures) ∙ c .before .before .if2 .left)) ∙ every-stop _ _ (ap not (sym (c .before .is-transform2 .ensures) ∙ c .if3 .taken))))
-
-is-on-requires : tie.Need-is-on-requires
-is-on-requires c κs = search needs
 
 returns-4 : tie.Need-returns-4
 unfolding plain
@@ -38,9 +29,9 @@ plain-spec =
     tie.close
     (tie.spec
     returns
-    is-transform-requires
+    (λ c κs. search needs)
     returns-2
-    is-transform-requires-2
+    (λ c κs. search needs)
     returns-3
-    is-on-requires
+    (λ c κs. search needs)
     returns-4)

@@ -7,9 +7,6 @@ use Rattle.settings.specs.Tests.{srgbAllowed}
 use Rattle.settings.proofs.srgb_allowed.Statement.{statement}
 use Rattle.settings.proofs.srgb_allowed.Tie as tie
 
-is-srgb-requires : tie.Need-is-srgb-requires
-is-srgb-requires c κs = search needs
-
 returns : tie.Need-returns
 unfolding srgbAllowed
 returns c = rw (sym (c .before .is-srgb .ensures) ∙ not-true _ (c .if1 .taken))
@@ -23,4 +20,4 @@ unfolding srgbAllowed
 returns-3 c = rw (sym (c .before .before .before .before .is-srgb .ensures) ∙ not-false _ (c .before .before .before .if1 .left)) (sym (every-pass _ _ (eq-eqb _ _ (c .before .if2 .left)) ∙ every-last _))
 
 pub srgb-allowed-spec : {M : Type 1} → statement M
-srgb-allowed-spec = tie.close (tie.spec is-srgb-requires returns returns-2 returns-3)
+srgb-allowed-spec = tie.close (tie.spec (λ c κs. search needs) returns returns-2 returns-3)

@@ -4,24 +4,6 @@ use Rattle.curves.specs.Curves.{entries}
 use Rattle.settings.proofs.table_count.Statement.{statement}
 use Rattle.settings.proofs.table_count.Tie as tie
 
-enum-told : tie.Need-enum-told
-enum-told c = search needs
-
-enum-told-2 : tie.Need-enum-told-2
-enum-told-2 c = search needs
-
-add-power : tie.Need-add-power
-add-power c = search needs
-
-power-requires : tie.Need-power-requires
-power-requires c κs = search needs
-
-cast-result : tie.Need-cast-result
-cast-result c = search needs
-
-enum-told-3 : tie.Need-enum-told-3
-enum-told-3 c = search needs
-
 returns : tie.Need-returns
 unfolding entries
 returns c = rw (c .enum-told .given .1)
@@ -38,12 +20,12 @@ pub table-count-spec : {M : Type 1} → statement M
 table-count-spec =
     tie.close
     (tie.spec
-    enum-told
-    enum-told-2
-    add-power
-    power-requires
-    cast-result
-    enum-told-3
+    (λ c. search needs)
+    (λ c. search needs)
+    (λ c. search needs)
+    (λ c κs. search needs)
+    (λ c. search needs)
+    (λ c. search needs)
     returns
     returns-2
     returns-3)

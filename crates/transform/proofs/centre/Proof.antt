@@ -6,14 +6,8 @@ use Rattle.transform.proofs.Tables.{centre-in}
 use Rattle.transform.proofs.centre.Statement.{statement}
 use Rattle.transform.proofs.centre.Tie as tie
 
-mul-result : tie.Need-mul-result
-mul-result c = search needs
-
-array-copy-out-result : tie.Need-array-copy-out-result
-array-copy-out-result c = search needs
-
 returns : tie.Need-returns
 returns c = toZ-ofZ (record { sfits = c .result .given }) ∙ centre-in (c .before .args .refinement) (c .before .pre)
 
 pub centre-spec : {M : Type 1} → statement M
-centre-spec = tie.close (tie.spec mul-result array-copy-out-result returns)
+centre-spec = tie.close (tie.spec (λ c. search needs) (λ c. search needs) returns)

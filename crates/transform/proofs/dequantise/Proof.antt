@@ -43,14 +43,8 @@ module _ (c : tie.In-loop Inv-loop μ-loop) where
   small : z < 64
   small = rw is-zigzag (zigzag-small (c .before .loop .p) (c .loop-test .taken))
 
-mul-z : tie.Need-mul-z Inv-loop μ-loop
-mul-z c = search needs
-
 shared-slice-read-z : tie.Need-shared-slice-read-z Inv-loop μ-loop
 shared-slice-read-z c = omega (arith, ap length (c .before .before .before .before .before .pre .0 .0), order-long)
-
-mul-i : tie.Need-mul-i Inv-loop μ-loop
-mul-i c = omega arith
 
 add-i : tie.Need-add-i Inv-loop μ-loop
 add-i c = omega (arith, small (c .before))
@@ -67,20 +61,8 @@ mul-scaled-2 c = omega (arith, small (c .before .before))
 shared-slice-read-scaled : tie.Need-shared-slice-read-scaled Inv-loop μ-loop
 shared-slice-read-scaled c = omega (arith, small (c .before .before .before))
 
-scaled-requires : tie.Need-scaled-requires Inv-loop μ-loop
-scaled-requires c κs = search needs
-
-mul-w : tie.Need-mul-w Inv-loop μ-loop
-mul-w c = search needs
-
 slice-set-from-w : tie.Need-slice-set-from-w Inv-loop μ-loop
 slice-set-from-w c = omega (arith, long (c .before .before .before .before .before))
-
-add-p : tie.Need-add-p Inv-loop μ-loop
-add-p c = search needs
-
-loop-less : tie.Need-loop-less Inv-loop μ-loop
-loop-less c = search needs
 
 loop-again : tie.Need-loop-again Inv-loop μ-loop
 loop-again c =
@@ -106,19 +88,19 @@ dequantise-spec =
     Inv-loop
     μ-loop
     loop-holds
-    mul-z
+    (λ c. search needs)
     shared-slice-read-z
-    mul-i
+    (λ c. omega arith)
     add-i
     mul-scaled
     shared-slice-copy-out-scaled
     mul-scaled-2
     shared-slice-read-scaled
-    scaled-requires
-    mul-w
+    (λ c κs. search needs)
+    (λ c. search needs)
     slice-set-from-w
-    add-p
-    loop-less
+    (λ c. search needs)
+    (λ c. search needs)
     loop-again
     same-length
     returns)

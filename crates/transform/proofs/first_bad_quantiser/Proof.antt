@@ -20,24 +20,9 @@ abbrev μ-loop : tie.MeasureT-loop
 loop-holds : tie.Need-loop-holds Inv-loop μ-loop
 loop-holds c = (search needs, first-start (λ k. isQuantiser (getD (c .before .args .quantisers .now) k 0)))
 
-mul-is-quantiser : tie.Need-mul-is-quantiser Inv-loop μ-loop
-mul-is-quantiser c = search needs
-
-shared-slice-read-is-quantiser : tie.Need-shared-slice-read-is-quantiser Inv-loop μ-loop
-shared-slice-read-is-quantiser c = search needs
-
-is-quantiser-requires : tie.Need-is-quantiser-requires Inv-loop μ-loop
-is-quantiser-requires c κs = search needs
-
 returns : tie.Need-returns Inv-loop μ-loop
 unfolding firstBadQuantiser
 returns c = sym (first-found _ _ _ (c .before .before .before .loop-test .taken) (c .before .before .before .before .loop .inv .1) (sym (c .before .is-quantiser .ensures) ∙ not-true _ (c .if1 .taken)))
-
-add-i : tie.Need-add-i Inv-loop μ-loop
-add-i c = search needs
-
-loop-less : tie.Need-loop-less Inv-loop μ-loop
-loop-less c = search needs
 
 loop-again : tie.Need-loop-again Inv-loop μ-loop
 loop-again c = (search needs, first-more _ _ (c .before .before .before .before .loop .inv .1) (sym (c .before .is-quantiser .ensures) ∙ not-false _ (c .if1 .left)))
@@ -53,11 +38,11 @@ first-bad-quantiser-spec =
     Inv-loop
     μ-loop
     loop-holds
-    mul-is-quantiser
-    shared-slice-read-is-quantiser
-    is-quantiser-requires
+    (λ c. search needs)
+    (λ c. search needs)
+    (λ c κs. search needs)
     returns
-    add-i
-    loop-less
+    (λ c. search needs)
+    (λ c. search needs)
     loop-again
     returns-2)

@@ -4,32 +4,8 @@ use Rattle.answers.proofs.Laws.{meets-given, meets-refused}
 use Rattle.transform.proofs.inverse_transform.Statement.{statement}
 use Rattle.transform.proofs.inverse_transform.Tie as tie
 
-try-inverse-transform-requires : tie.Need-try-inverse-transform-requires
-try-inverse-transform-requires c κs = search needs
-
-enum-told : tie.Need-enum-told
-enum-told c = search needs
-
-clear-i32-requires : tie.Need-clear-i32-requires
-clear-i32-requires c κs = search needs
-
-answer-of-requires : tie.Need-answer-of-requires
-answer-of-requires c κs = search needs
-
-same-length : tie.Need-same-length
-same-length c = search needs
-
 returns : tie.Need-returns
 returns c = meets-refused (c .before .before .before .before .before .before .before .try-inverse-transform .ensures) (c .before .before .before .before .enum-told .given .1) (c .answer-of .ensures) (search needs) (c .before .before .clear-i32 .ensures)
-
-enum-told-2 : tie.Need-enum-told-2
-enum-told-2 c = search needs
-
-answer-of-requires-2 : tie.Need-answer-of-requires-2
-answer-of-requires-2 c κs = search needs
-
-same-length-2 : tie.Need-same-length-2
-same-length-2 c = search needs
 
 returns-2 : tie.Need-returns-2
 returns-2 c = meets-given (c .before .before .before .before .try-inverse-transform .ensures) (c .before .enum-told2 .given .1) (c .answer-of2 .ensures)
@@ -38,13 +14,13 @@ pub inverse-transform-spec : {M : Type 1} → statement M
 inverse-transform-spec =
     tie.close
     (tie.spec
-    try-inverse-transform-requires
-    enum-told
-    clear-i32-requires
-    answer-of-requires
-    same-length
+    (λ c κs. search needs)
+    (λ c. search needs)
+    (λ c κs. search needs)
+    (λ c κs. search needs)
+    (λ c. search needs)
     returns
-    enum-told-2
-    answer-of-requires-2
-    same-length-2
+    (λ c. search needs)
+    (λ c κs. search needs)
+    (λ c. search needs)
     returns-2)

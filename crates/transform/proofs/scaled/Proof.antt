@@ -21,9 +21,6 @@ module _ (c : tie.Start) where
 cast-result : tie.Need-cast-result
 cast-result c = search (needs, to64)
 
-cast-result-2 : tie.Need-cast-result-2
-cast-result-2 c = search needs
-
 mul-result : tie.Need-mul-result
 mul-result c = subst (SFits w64) (sym (is c)) (whole-fits c)
 
@@ -32,4 +29,4 @@ unfolding scaled
 returns c = ap (λ (z : ℤ). toZ w64 (ofZ w64 z)) (is c) ∙ toZ-ofZ (whole-fits c)
 
 pub scaled-spec : {M : Type 1} → statement M
-scaled-spec = tie.close (tie.spec cast-result cast-result-2 mul-result returns)
+scaled-spec = tie.close (tie.spec cast-result (λ c. search needs) mul-result returns)

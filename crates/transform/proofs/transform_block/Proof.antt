@@ -9,20 +9,8 @@ use Rattle.transform.proofs.Tables.{figure-is}
 use Rattle.transform.proofs.transform_block.Statement.{statement}
 use Rattle.transform.proofs.transform_block.Tie as tie
 
-slice-aggregate-dequantise : tie.Need-slice-aggregate-dequantise
-slice-aggregate-dequantise c = search needs
-
-slice-aggregate-dequantise-2 : tie.Need-slice-aggregate-dequantise-2
-slice-aggregate-dequantise-2 c = search needs
-
 dequantise-requires : tie.Need-dequantise-requires
 dequantise-requires c κs = let k = c .before .before .before in ((figure-is, refl), (k .pre .1 .0, k .pre .0 .0 .tabled))
-
-mul-at : tie.Need-mul-at
-mul-at c = search needs
-
-slice-aggregate-write-block : tie.Need-slice-aggregate-write-block
-slice-aggregate-write-block c = search needs
 
 write-block-requires : tie.Need-write-block-requires
 write-block-requires c κs =
@@ -31,9 +19,6 @@ write-block-requires c κs =
       subst Products (sym (c .before .before .before .dequantise .ensures)) (dequantised-small (a .values .now) (a .quantisers .now) (a .block) (k .pre .0 .0)),
       rw (toZ-ofZ (k .fits .centre)) (k .pre .0 .1, omega arith),
     )
-
-same-length : tie.Need-same-length
-same-length c = search needs
 
 returns : tie.Need-returns
 returns c =
@@ -44,11 +29,11 @@ pub transform-block-spec : {M : Type 1} → statement M
 transform-block-spec =
     tie.close
     (tie.spec
-    slice-aggregate-dequantise
-    slice-aggregate-dequantise-2
+    (λ c. search needs)
+    (λ c. search needs)
     dequantise-requires
-    mul-at
-    slice-aggregate-write-block
+    (λ c. search needs)
+    (λ c. search needs)
     write-block-requires
-    same-length
+    (λ c. search needs)
     returns)

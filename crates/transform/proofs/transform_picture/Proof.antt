@@ -29,9 +29,6 @@ Inv-loop refinement blocks values quantisers destination₀ c block₀ destinati
 abbrev μ-loop : tie.MeasureT-loop
 μ-loop refinement blocks values quantisers destination₀ c block₀ destination block = blocks - block
 
-centre-requires : tie.Need-centre-requires Inv-loop μ-loop
-centre-requires c κs = search needs
-
 loop-holds : tie.Need-loop-holds Inv-loop μ-loop
 loop-holds c =
     let a = c .before .before .args in
@@ -52,9 +49,6 @@ transform-block-requires c κs =
 
 add-block : tie.Need-add-block Inv-loop μ-loop
 add-block c = omega (arith, c .before .before .before .before .before .before .before)
-
-loop-less : tie.Need-loop-less Inv-loop μ-loop
-loop-less c = omega arith
 
 loop-again : tie.Need-loop-again Inv-loop μ-loop
 loop-again c =
@@ -78,11 +72,11 @@ transform-picture-spec =
     (tie.spec
     Inv-loop
     μ-loop
-    centre-requires
+    (λ c κs. search needs)
     loop-holds
     transform-block-requires
     add-block
-    loop-less
+    (λ c. omega arith)
     loop-again
     same-length
     returns)

@@ -12,41 +12,17 @@ use Rattle.transform.proofs.Refusals.{refinement-over, blocks-over, val
 use Rattle.transform.proofs.try_inverse_transform.Statement.{statement}
 use Rattle.transform.proofs.try_inverse_transform.Tie as tie
 
-refuse-requires : tie.Need-refuse-requires
-refuse-requires c κs = search needs
-
 returns : tie.Need-returns
 returns c = tried-refused (c .refuse .ensures) (refinement-over _ _ _ _ _ (c .before .if1 .taken))
-
-refuse-requires-2 : tie.Need-refuse-requires-2
-refuse-requires-2 c κs = search needs
 
 returns-2 : tie.Need-returns-2
 returns-2 c = tried-refused (c .refuse2 .ensures) (blocks-over _ _ _ _ _ (c .before .before .if1 .left) (c .before .if2 .taken))
 
-mul-count : tie.Need-mul-count
-mul-count c = search needs
-
-refuse-requires-3 : tie.Need-refuse-requires-3
-refuse-requires-3 c κs = search needs
-
 returns-3 : tie.Need-returns-3
 returns-3 c = tried-refused (c .refuse3 .ensures) (values-miscounted _ _ _ _ _ (c .before .before .before .if1 .left) (c .before .before .if2 .left) (c .before .if3 .taken))
 
-refuse-requires-4 : tie.Need-refuse-requires-4
-refuse-requires-4 c κs = search needs
-
 returns-4 : tie.Need-returns-4
 returns-4 c = tried-refused (c .refuse4 .ensures) (quantisers-miscounted _ _ _ _ _ (c .before .before .before .before .if1 .left) (c .before .before .before .if2 .left) (c .before .before .if3 .left) (c .before .if4 .taken))
-
-first-bad-quantiser-requires : tie.Need-first-bad-quantiser-requires
-first-bad-quantiser-requires c κs = search needs
-
-enum-known-bad : tie.Need-enum-known-bad
-enum-known-bad c = search needs
-
-refuse-requires-5 : tie.Need-refuse-requires-5
-refuse-requires-5 c κs = search needs
 
 returns-5 : tie.Need-returns-5
 returns-5 c =
@@ -55,18 +31,6 @@ returns-5 c =
     (quantiser-bad _ _ _ _ _ (k .before .before .before .if1 .left) (k .before .before .if2 .left) (k .before .if3 .left) (k .if4 .left)
     (sym (c .before .before .before .before .first-bad-quantiser .ensures) ∙ c .before .before .bad .given .1))
 
-enum-told : tie.Need-enum-told
-enum-told c = search needs
-
-first-outside-requires : tie.Need-first-outside-requires
-first-outside-requires c κs = search needs
-
-enum-known-outside : tie.Need-enum-known-outside
-enum-known-outside c = search needs
-
-refuse-requires-6 : tie.Need-refuse-requires-6
-refuse-requires-6 c κs = search needs
-
 returns-6 : tie.Need-returns-6
 returns-6 c =
     let k = c .before .before .before .before .before .before .before .before in
@@ -74,12 +38,6 @@ returns-6 c =
     (value-outside _ _ _ _ _ (k .before .before .before .if1 .left) (k .before .before .if2 .left) (k .before .if3 .left) (k .if4 .left)
     (sym (c .before .before .before .before .before .before .before .first-bad-quantiser .ensures) ∙ c .before .before .before .before .before .enum-told .given .1)
     (sym (c .before .before .before .before .first-outside .ensures) ∙ c .before .before .outside .given .1))
-
-enum-told-2 : tie.Need-enum-told-2
-enum-told-2 c = search needs
-
-refuse-requires-7 : tie.Need-refuse-requires-7
-refuse-requires-7 c κs = search needs
 
 returns-7 : tie.Need-returns-7
 returns-7 c =
@@ -103,9 +61,6 @@ transform-picture-requires c κs =
       (k .before .if3 .left, c .before .if5 .left),
     )
 
-same-length : tie.Need-same-length
-same-length c = search needs
-
 returns-8 : tie.Need-returns-8
 returns-8 c =
     let k = c .before .before .before .before .before .before .before .before .before .before in
@@ -123,27 +78,27 @@ pub try-inverse-transform-spec : {M : Type 1} → statement M
 try-inverse-transform-spec =
     tie.close
     (tie.spec
-    refuse-requires
+    (λ c κs. search needs)
     returns
-    refuse-requires-2
+    (λ c κs. search needs)
     returns-2
-    mul-count
-    refuse-requires-3
+    (λ c. search needs)
+    (λ c κs. search needs)
     returns-3
-    refuse-requires-4
+    (λ c κs. search needs)
     returns-4
-    first-bad-quantiser-requires
-    enum-known-bad
-    refuse-requires-5
+    (λ c κs. search needs)
+    (λ c. search needs)
+    (λ c κs. search needs)
     returns-5
-    enum-told
-    first-outside-requires
-    enum-known-outside
-    refuse-requires-6
+    (λ c. search needs)
+    (λ c κs. search needs)
+    (λ c. search needs)
+    (λ c κs. search needs)
     returns-6
-    enum-told-2
-    refuse-requires-7
+    (λ c. search needs)
+    (λ c κs. search needs)
     returns-7
     transform-picture-requires
-    same-length
+    (λ c. search needs)
     returns-8)

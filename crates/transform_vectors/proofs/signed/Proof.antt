@@ -8,19 +8,10 @@ use Rattle.laws.proofs.Integers.{fit, abs-sum, abs-neg}
 use Rattle.transform_vectors.proofs.signed.Statement.{statement}
 use Rattle.transform_vectors.proofs.signed.Tie as tie
 
-cast-value : tie.Need-cast-value
-cast-value c = search needs
-
 sub-result : tie.Need-sub-result
 sub-result c =
     let n = c .before .args .size in
     rw (toZ-pos w32 {n = n} (omega arith)) (fit w32 (omega (arith, abs-sum (pos 0) (negℤ (pos n)), abs-neg (pos n))))
 
-returns : tie.Need-returns
-returns c = search needs
-
-returns-2 : tie.Need-returns-2
-returns-2 c = search needs
-
 pub signed-spec : {M : Type 1} → statement M
-signed-spec = tie.close (tie.spec cast-value sub-result returns returns-2)
+signed-spec = tie.close (tie.spec (λ c. search needs) sub-result (λ c. search needs) (λ c. search needs))

@@ -15,32 +15,14 @@ Inv-loop file kind instance passed places₀ at₀ places at = Locating file kin
 abbrev μ-loop : tie.MeasureT-loop
 μ-loop file kind instance passed places₀ at₀ places at = length file - at
 
-clear-places-requires : tie.Need-clear-places-requires Inv-loop μ-loop
-clear-places-requires c κs = search needs
-
 loop-holds : tie.Need-loop-holds Inv-loop μ-loop
 loop-holds c = locate-start _ _ _ _ (length (c .before .before .before .before .before .before .args .places .now)) (c .before .before .clear-places .ensures)
-
-next-mine-requires : tie.Need-next-mine-requires Inv-loop μ-loop
-next-mine-requires c κs = search needs
-
-enum-told : tie.Need-enum-told Inv-loop μ-loop
-enum-told c = search needs
 
 same-length : tie.Need-same-length Inv-loop μ-loop
 same-length c = c .before .before .before .loop .inv .size ∙ search needs
 
 returns : tie.Need-returns Inv-loop μ-loop
 returns c = locate-end (c .before .before .before .loop .inv) (gone _ _ _ _ (c .before .before .next-mine .ensures) (c .enum-told .given .1))
-
-enum-known-head : tie.Need-enum-known-head Inv-loop μ-loop
-enum-known-head c = search needs
-
-cast-mark : tie.Need-cast-mark Inv-loop μ-loop
-cast-mark c = search needs
-
-mark-requires : tie.Need-mark-requires Inv-loop μ-loop
-mark-requires c κs = search needs
 
 loop-less : tie.Need-loop-less Inv-loop μ-loop
 loop-less c = let m = met _ _ _ _ (c .before .before .before .before .before .before .before .before .next-mine .ensures) (c .before .before .before .before .before .before .head .given .1) in omega arith
@@ -54,14 +36,14 @@ locate-spec =
     (tie.spec
     Inv-loop
     μ-loop
-    clear-places-requires
+    (λ c κs. search needs)
     loop-holds
-    next-mine-requires
-    enum-told
+    (λ c κs. search needs)
+    (λ c. search needs)
     same-length
     returns
-    enum-known-head
-    cast-mark
-    mark-requires
+    (λ c. search needs)
+    (λ c. search needs)
+    (λ c κs. search needs)
     loop-less
     loop-again)

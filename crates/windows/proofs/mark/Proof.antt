@@ -13,21 +13,6 @@ returns : tie.Need-returns
 unfolding marked
 returns c = rw (le-leb _ _ (c .if1 .taken))
 
-sub-i : tie.Need-sub-i
-sub-i c = search needs
-
-sub-i-2 : tie.Need-sub-i-2
-sub-i-2 c = search needs
-
-mul-places : tie.Need-mul-places
-mul-places c = search needs
-
-slice-write-places : tie.Need-slice-write-places
-slice-write-places c = search needs
-
-same-length : tie.Need-same-length
-same-length c = search needs
-
 returns-2 : tie.Need-returns-2
 unfolding marked
 returns-2 c = let e : c .before .before .args .number - 1 - c .before .before .args .passed ≡ c .before .before .args .number - (c .before .before .args .passed + 1) = omega arith in rw (lt-leb _ _ (c .before .if1 .left), e)
@@ -39,4 +24,4 @@ returns-3 c = let e : c .before .before .args .number - 1 - c .before .before .a
 pub mark-spec : {M : Type 1} → statement M
 mark-spec =
     tie.close
-    (tie.spec returns sub-i sub-i-2 mul-places slice-write-places same-length returns-2 returns-3)
+    (tie.spec returns (λ c. search needs) (λ c. search needs) (λ c. search needs) (λ c. search needs) (λ c. search needs) returns-2 returns-3)

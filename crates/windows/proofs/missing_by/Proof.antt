@@ -19,35 +19,11 @@ abbrev μ-loop : tie.MeasureT-loop
 loop-holds : tie.Need-loop-holds Inv-loop μ-loop
 loop-holds c = let e : c .before .before .args .n - 0 ≡ c .before .before .args .n = omega arith in (rw e, omega arith, refl)
 
-locate-requires : tie.Need-locate-requires Inv-loop μ-loop
-locate-requires c κs = search needs
-
-sub-lesser : tie.Need-sub-lesser Inv-loop μ-loop
-sub-lesser c = search needs
-
-lesser-requires : tie.Need-lesser-requires Inv-loop μ-loop
-lesser-requires c κs = search needs
-
-first-gone-requires : tie.Need-first-gone-requires Inv-loop μ-loop
-first-gone-requires c κs = search needs
-
-enum-known-i : tie.Need-enum-known-i Inv-loop μ-loop
-enum-known-i c = search needs
-
-add-t18 : tie.Need-add-t18 Inv-loop μ-loop
-add-t18 c = search needs
-
 add-t19 : tie.Need-add-t19 Inv-loop μ-loop
 add-t19 c = let h = window-index (c .before .before .before .before .before .before .before .before .locate .ensures) _ (c .before .before .before .before .before .before .before .before .before .before .before .before .before .before .args .n - c .before .before .before .before .before .before .before .before .before .before .before .loop .passed) (omega (arith, c .before .before .before .before .before .lesser .ensures .0)) (omega (arith, c .before .before .before .before .before .lesser .ensures .0)) (c .before .before .before .first-gone .ensures) (c .before .i .given .1) in omega (arith, c .before .before .before .before .before .lesser .ensures .0)
 
-same-length : tie.Need-same-length Inv-loop μ-loop
-same-length c = search needs
-
 returns : tie.Need-returns Inv-loop μ-loop
 returns c = sym (window-missing (c .before .before .before .before .before .before .before .before .locate .ensures) _ (c .before .before .before .before .before .before .before .before .before .before .before .before .before .before .args .n - c .before .before .before .before .before .before .before .before .before .before .before .loop .passed) (omega (arith, c .before .before .before .before .before .lesser .ensures .0)) (omega (arith, c .before .before .before .before .before .lesser .ensures .0)) (c .before .before .before .first-gone .ensures) (c .before .i .given .1)) ∙ c .before .before .before .before .before .before .before .before .before .before .before .loop .inv .0
-
-enum-told : tie.Need-enum-told Inv-loop μ-loop
-enum-told c = search needs
 
 add-passed : tie.Need-add-passed Inv-loop μ-loop
 add-passed c = omega (arith, c .before .before .before .before .lesser .ensures .0)
@@ -60,9 +36,6 @@ loop-again c = let w = window-passed (c .before .before .before .before .before 
     let e : c .before .before .before .before .before .before .before .before .before .before .before .before .before .args .n - (c .before .before .before .before .before .before .before .before .before .before .loop .passed + c .before .before .before .before .lesser .result) ≡ c .before .before .before .before .before .before .before .before .before .before .before .before .before .args .n - c .before .before .before .before .before .before .before .before .before .before .loop .passed - c .before .before .before .before .lesser .result = omega arith in
     (rw e (sym w ∙ c .before .before .before .before .before .before .before .before .before .before .loop .inv .0), omega (arith, c .before .before .before .before .lesser .ensures .0), search needs)
 
-same-length-2 : tie.Need-same-length-2 Inv-loop μ-loop
-same-length-2 c = search needs
-
 returns-2 : tie.Need-returns-2 Inv-loop μ-loop
 returns-2 c = sym (missing-done _ _ _ (omega arith)) ∙ c .before .loop .inv .0
 
@@ -73,18 +46,18 @@ missing-by-spec =
     Inv-loop
     μ-loop
     loop-holds
-    locate-requires
-    sub-lesser
-    lesser-requires
-    first-gone-requires
-    enum-known-i
-    add-t18
+    (λ c κs. search needs)
+    (λ c. search needs)
+    (λ c κs. search needs)
+    (λ c κs. search needs)
+    (λ c. search needs)
+    (λ c. search needs)
     add-t19
-    same-length
+    (λ c. search needs)
     returns
-    enum-told
+    (λ c. search needs)
     add-passed
     loop-less
     loop-again
-    same-length-2
+    (λ c. search needs)
     returns-2)
