@@ -1,0 +1,95 @@
+-- Past the end stand zeros, so a position that is cut at the end says the same. Assumes nothing.
+use mathlib.Core.Path.{_≡_, refl, sym, _∙_}
+use mathlib.Core.List.{List, []}
+use Prim.Native.Nat.{ℕ, _+_, _*_, _≤_, _<_}
+use native.Mathlib.Omega.{arith}
+use borrow.Author.Tests.{leb-true, leb-false, le-leb, lt-leb}
+use lib.ListN.{length, getD, take, drop, List·getD-eq-default}
+use lib.IntN.{ℤ, pos, negsuc, negℤ, _-ℤ_}
+use lib.Signed.{mag}
+use lib.Dec.{leb}
+use Rattle.laws.proofs.Integers.{up, dn, sum, one, pos-up, pos-dn, negsuc-dn, neg-up, neg-dn}
+use Rattle.laws.proofs.Choices.{by-test}
+use Rattle.records.specs.Fields.{onFrom, pairAt, numberAt, partAt, lentAt}
+
+pub on-inside : (end at n : ℕ) → at + n ≤ end → onFrom end at n ≡ at + n
+unfolding onFrom
+on-inside end at n h = rw (le-leb (at + n) end h)
+
+pub on-end : (end at n : ℕ) → end < at + n → onFrom end at n ≡ end
+unfolding onFrom
+on-end end at n h = rw (lt-leb (at + n) end h)
+
+-- what is so inside, and so of the end and of all behind it, is so
+on-alike : {A : Type 0} (f : ℕ → A) (z : A) (end at n : ℕ) → ((p : ℕ) → end ≤ p → f p ≡ z) → f (onFrom end at n) ≡ f (at + n)
+unfolding onFrom
+on-alike f z end at n behind =
+    by-test (λ p. f p ≡ f (at + n)) (leb (at + n) end) (λ e. refl)
+    λ e.
+    let h = leb-false (at + n) end e in
+    behind end (omega arith) ∙ sym (behind (at + n) (omega arith))
+
+pub on-byte : (bytes : List ℕ) (at n : ℕ) → getD bytes (onFrom (length bytes) at n) 0 ≡ getD bytes (at + n) 0
+on-byte bytes at n = on-alike (λ p. getD bytes p 0) 0 (length bytes) at n (λ p h. List·getD-eq-default bytes 0 h)
+
+pub pair-behind : (bytes : List ℕ) (p : ℕ) → length bytes ≤ p → pairAt bytes p ≡ 0
+unfolding pairAt
+pair-behind bytes p h = rw (List·getD-eq-default bytes 0 {n = p} h, List·getD-eq-default bytes 0 {n = p + 1} (omega arith))
+
+pub on-pair : (bytes : List ℕ) (at n : ℕ) → pairAt bytes (onFrom (length bytes) at n) ≡ pairAt bytes (at + n)
+on-pair bytes at n = on-alike (pairAt bytes) 0 (length bytes) at n (pair-behind bytes)
+
+pub number-behind : (bytes : List ℕ) (p : ℕ) → length bytes ≤ p → numberAt bytes p ≡ 0
+unfolding numberAt
+number-behind bytes p h = rw (pair-behind bytes p h, pair-behind bytes (p + 2) (omega arith))
+
+-- what is read from a position that was cut, k further on
+pub on-later : {A : Type 0} (f : ℕ → A) (z : A) (end at n k : ℕ) → ((p : ℕ) → end ≤ p → f p ≡ z) → f (onFrom end at n + k) ≡ f (at + n + k)
+on-later f z end at n k behind = on-alike (λ p. f (p + k)) z end at n (λ p h. behind (p + k) (omega arith))
+
+-- there are so many bytes, or not
+pub part-some : (bytes : List ℕ) (at n : ℕ) → at + n ≤ length bytes → partAt bytes at n ≡ take n (drop at bytes)
+unfolding partAt
+part-some bytes at n h = rw (le-leb (at + n) (length bytes) h)
+
+pub part-none : (bytes : List ℕ) (at n : ℕ) → length bytes < at + n → partAt bytes at n ≡ []
+unfolding partAt
+part-none bytes at n h = rw (lt-leb (at + n) (length bytes) h)
+
+part-behind : (bytes : List ℕ) (n p : ℕ) → length bytes ≤ p → partAt bytes p n ≡ []
+unfolding partAt
+part-behind bytes n p h =
+    by-test (λ l. l ≡ []) (leb (p + n) (length bytes)) (λ e.
+    let f = leb-true (p + n) (length bytes) e in
+    let z : n ≡ 0 = omega arith in
+    rw z)
+    (λ e. refl)
+
+pub on-part : (bytes : List ℕ) (at k n : ℕ) → partAt bytes (onFrom (length bytes) at k) n ≡ partAt bytes (at + k) n
+on-part bytes at k n = on-alike (λ p. partAt bytes p n) [] (length bytes) at k (part-behind bytes n)
+
+-- a number is two numbers of half its size
+pub pair-is : (bytes : List ℕ) (at : ℕ) {p low high : ℕ} → p ≡ onFrom (length bytes) at 1 → low ≡ getD bytes at 0 → high ≡ getD bytes p 0 → low + 256 * high ≡ pairAt bytes at
+unfolding pairAt
+pair-is bytes at e f g = rw (f, g, e, on-byte bytes at 1)
+
+pub number-is : (bytes : List ℕ) (at : ℕ) {p low high : ℕ} → p ≡ onFrom (length bytes) at 2 → low ≡ pairAt bytes at → high ≡ pairAt bytes p → low + 65536 * high ≡ numberAt bytes at
+unfolding numberAt
+number-is bytes at e f g = rw (f, g, e, on-pair bytes at 2)
+
+pub lent-is : (bytes : List ℕ) (at : ℕ) {n p : ℕ} {l : List ℕ} → n ≡ numberAt bytes at → p ≡ onFrom (length bytes) at 4 → l ≡ partAt bytes p n → l ≡ lentAt bytes at
+unfolding lentAt
+lent-is bytes at e f g = rw (g, f, e, on-part bytes at 4)
+
+-- a number below 2h, less h, has the magnitude of a signed number
+mag-below : (h : ℕ) (z : ℤ) → up z < h → dn z ≤ h → mag z < h
+mag-below h (pos n) a b = omega (arith, pos-up n)
+mag-below h (negsuc n) a b = omega (arith, negsuc-dn n)
+
+pub less-half : (h n : ℕ) → 0 < h → n < h + h → mag (pos n -ℤ pos h) < h
+less-half h n some l =
+    let z = pos n -ℤ pos h in
+    let e = sum (pos n) (negℤ (pos h)) in
+    mag-below h z
+    (omega (arith, one z, pos-up n, pos-dn n, neg-up (pos h), neg-dn (pos h), pos-up h, pos-dn h))
+    (omega (arith, one z, pos-up n, pos-dn n, neg-up (pos h), neg-dn (pos h), pos-up h, pos-dn h))
