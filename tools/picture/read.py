@@ -1,12 +1,13 @@
 #!/usr/bin/env python3
 """read.py PICTURE [OUT.pgm]: one grey JPEG XT picture read through: boxes, refinement planes, transform, merge with its TONE table; compared with
-the reference decoder (`jpeg` of Debian's libjpeg-tools) where that is there. The base coefficients are lent numbers to the reader: they stand in
+the reference decoder (`jpeg` of Debian's libjpeg-tools) where that is there, and with what that decoder's own arithmetic makes of the same values. The base coefficients are lent numbers to the reader: they stand in
 PICTURE.base, or come from libjpeg (tools/vectors/coefficients.c: gcc and libjpeg62-turbo-dev). Needs `rt staticlib reader_c` first."""
 import os, shutil, subprocess, sys, tempfile
 sys.path.insert(0, os.path.dirname(os.path.abspath(__file__)))
 from library import *
 
 TMP = tempfile.mkdtemp()
+WALK = sorted(((v, u) for v in range(8) for u in range(8)), key=lambda p: (sum(p), p[sum(p) % 2 == 0]))
 
 
 def segments(jpeg):
@@ -62,8 +63,52 @@ def all_boxes(file, kind):
         found.append(answer[2])
 
 
+def output_bits(file):
+    """8 + Rb, from the output conversion box in the merging specification box."""
+    number, _, spec = box(file, b'SPEC', 1)
+    at = 0
+    while number == 0 and at < len(spec):
+        if spec[at + 4:at + 8] == b'OCON':
+            return 8 + (spec[at + 8] >> 4)
+        at += max(8, int.from_bytes(spec[at:at + 4], 'big'))
+    return 8
+
+
+def decoder_samples(blocks, quantisers, planes):
+    """The reference decoder's own transform: cosines in 512ths, rounded behind the rows and again behind the columns, to samples in sixteenths."""
+    def line(s, x):
+        total = 512 * s[0]
+        for u in range(1, 8):
+            m = min((2 * x + 1) * u % 32, 32 - (2 * x + 1) * u % 32)
+            total += s[u] * (0, 710, 669, 602, 512, 402, 277, 141)[m if m < 8 else 16 - m] * (1 if m < 8 else -1)
+        return total
+    out = []
+    for block in blocks:
+        s = [[0] * 8 for _ in range(8)]
+        for (v, u), value, q in zip(WALK, block, quantisers):
+            s[v][u] = 16 * value * q
+        s[0][0] += 1 << 14 + planes
+        rows = [[line(row, x) + 256 >> 9 for x in range(8)] for row in s]
+        out += [line([row[x] for row in rows], y) + 2048 >> 12 for y in range(8) for x in range(8)]
+    return out
+
+
+def decoder_merge(rb, rh, rr, base, table, residual):
+    """The reference decoder's own merge of samples in sixteenths: the base is rounded before its curve, the residual is clipped to its range and keeps its sixteenths."""
+    clip = lambda v, bits: max(0, min(v, (1 << bits) - 1))
+    out = []
+    for i, b in enumerate(base):
+        b, top, full = clip(b + 8 >> 4, 8 + rh), (1 << 8 + rh) - 1, (1 << 8 + rb) - 1
+        t = 16 * (table[b] if table else (2 * b * full + top) // (2 * top))
+        if residual:
+            r = clip(residual[i], 12 + rr)
+            t += (r << rb - rr if rb >= rr else r + (1 << rr - rb - 1) >> rr - rb) - (1 << 11 + rb)
+        out.append(clip(t + 8 >> 4, 8 + rb))
+    return out
+
+
 def samples_of(name, path, codestream, fines, say):
-    """Samples row by row of a codestream and its refinement boxes, and how many planes there are."""
+    """Width, height, how many planes there are, and the samples row by row of a codestream and its refinement boxes: ours, and the decoder's in sixteenths."""
     width, height, quantisers, blocks = base_of(path, codestream)
     planes, n = len(fines) // 2, len(blocks)
     dc, ac = [b[0] for b in blocks], [v for b in blocks for v in b[1:]]
@@ -78,32 +123,35 @@ def samples_of(name, path, codestream, fines, say):
         else:
             ac = answer[2]
         say(f'{name}, plane {plane} {"DC" if is_dc else "AC"}: {len(data)} bytes, {answer[1]} values')
-    answer = transform(planes, n, [v for b in range(n) for v in [dc[b]] + ac[63 * b:63 * b + 63]], quantisers)
+    blocks = [[dc[b]] + ac[63 * b:63 * b + 63] for b in range(n)]
+    answer = transform(planes, n, [v for b in blocks for v in b], quantisers)
     if answer[0]:
         refuse(f'{name}, transform', answer)
     across = (width + 7) // 8
-    return width, height, planes, [answer[2][64 * ((y // 8) * across + x // 8) + 8 * (y % 8) + x % 8] for y in range(height) for x in range(width)]
+    rows = lambda samples: [samples[64 * ((y // 8) * across + x // 8) + 8 * (y % 8) + x % 8] for y in range(height) for x in range(width)]
+    return width, height, planes, rows(answer[2]), rows(decoder_samples(blocks, quantisers, planes))
 
 
 def read(path, say=print):
+    """Width, height, Rb, the samples, and what the decoder's own arithmetic makes of the same values."""
     file = open(path, 'rb').read()
     say(listing(file).rstrip())
-    width, height, planes, base = samples_of('base', path, file, all_boxes(file, b'FINE'), say)
+    width, height, planes, base, base16 = samples_of('base', path, file, all_boxes(file, b'FINE'), say)
     number, _, tone = box(file, b'TONE', 1)
     table = [int.from_bytes(tone[i:i + 2], 'big') for i in range(1, len(tone) - 1, 2)] if number == 0 else []
     number, _, codestream = box(file, b'RESI', 1)
-    residual, rr = [], 0
+    residual, residual16, rr = [], [], 0
     if number == 0:
         inner = os.path.join(TMP, 'residual.jpg')
         with open(inner, 'wb') as f:
             f.write(codestream)
-        _, _, rr, residual = samples_of('residual', inner, codestream, all_boxes(file, b'RFIN'), say)
-    bits = max(table).bit_length() if table else 8 + planes
+        _, _, rr, residual, residual16 = samples_of('residual', inner, codestream, all_boxes(file, b'RFIN'), say)
+    bits = output_bits(file)
     answer = merge_grey(bits - 8, planes, rr, base, table, residual)
     if answer[0]:
         refuse('merge', answer)
     say(f'merged: {answer[1]} samples of {bits} bits, from {min(answer[2])} to {max(answer[2])}')
-    return width, height, bits - 8, answer[2]
+    return width, height, bits - 8, answer[2], decoder_merge(bits - 8, planes, rr, base16, table, residual16)
 
 
 def reference(path):
@@ -122,7 +170,7 @@ def reference(path):
 
 
 def main():
-    width, height, planes, samples = read(sys.argv[1])
+    width, height, planes, samples, as_decoder = read(sys.argv[1])
     if len(sys.argv) > 2:
         with open(sys.argv[2], 'wb') as f:
             f.write(b'P5\n%d %d\n%d\n' % (width, height, (1 << 8 + planes) - 1) + b''.join(s.to_bytes(2, 'big') for s in samples))
@@ -133,6 +181,7 @@ def main():
     far = [abs(a - b) for a, b in zip(samples, theirs)]
     classes = (('the same', 0, 0), ('1 away', 1, 1), ('2 to 8 away', 2, 8), ('more', 9, 1 << 16))
     print('beside the reference decoder: ' + ', '.join(f'{sum(low <= d <= high for d in far)} {name}' for name, low, high in classes) + f'; at most {max(far)}')
+    print(f"the decoder's own arithmetic on the same values gives {sum(a == b for a, b in zip(as_decoder, theirs))} of its {len(theirs)} samples")
 
 
 if __name__ == '__main__':

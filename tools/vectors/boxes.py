@@ -1,8 +1,9 @@
 #!/usr/bin/env python3
 """boxes.py STDIN STDOUT: makes the vectors of boxes that crates/box_vectors runs and what it must print: files in order, shuffled, with several
 instances, strangers, fill, damage and cuts, by the second reading of document 01 in tools/box_check.py, and the bundled picture of the reference software.
-A record is group, type, instance, room, the file, and the number, place and bytes expected."""
+A record is type, instance, room, the file, and the number, place and bytes expected."""
 import os, random, struct, sys
+from fields import lent, numbers, write
 
 HERE = os.path.dirname(os.path.abspath(__file__))
 ROOT = os.path.dirname(os.path.dirname(HERE))
@@ -20,8 +21,8 @@ def record(group, file, kind, instance, room):
         expected, answer = answer, len(answer)
         if answer > room:
             number, expected = 9, b''
-    records.append(struct.pack('<BIHI', group, int.from_bytes(kind, 'big'), instance, room) + struct.pack('<I', len(file)) + file
-                   + struct.pack('<II', number, answer) + struct.pack('<I', len(expected)) + expected)
+    head = struct.pack('<IHI', int.from_bytes(kind, 'big'), instance, room)
+    records.append((group, head + lent(file) + numbers(number, answer) + lent(expected)))
 
 
 def packet(number, payload, lbox, instance=1, kind=b'LPTS', fill=1):
@@ -34,33 +35,26 @@ def main():
         parts = [bytes(rnd.randrange(256) for _ in range(rnd.randrange(6))) for _ in range(n)]
         lbox = 8 + sum(map(len, parts))
         order = list(range(n))
-        for group in (1, 2):
+        for group in ('packets in order', 'packets shuffled'):
             body = b''.join(packet(i + 1, parts[i], lbox, fill=1 + i % 3) + packet(1, b'stranger', 16, 2) for i in order)
             record(group, b'\xff\xd8' + body + b'\xff\xda', b'LPTS', 1, lbox)
             rnd.shuffle(order)
     for numbers in ([1, 1], [1, 3], [0], [0, 0], [2, 2, 1], [1, 2, 2, 4, 4], [5, 4, 3, 1], [4294967295, 1], list(range(2, 300)) + [299]):
         body = b''.join(packet(q, b'a', 8 + len(numbers)) for q in numbers)
-        record(3, b'\xff\xd8' + body + b'\xff\xda', b'LPTS', 1, 100)
+        record('numbers that stand twice or are missing', b'\xff\xd8' + body + b'\xff\xda', b'LPTS', 1, 100)
     whole = b'\xff\xd8' + packet(2, b'cd', 12) + packet(1, b'ab', 12) + b'\xff\xda'
     for room in range(6):
-        record(4, whole, b'LPTS', 1, room)
+        record('room', whole, b'LPTS', 1, room)
     for cut in range(len(whole)):
-        record(5, whole[:cut], b'LPTS', 1, 9)
+        record('files cut at every byte', whole[:cut], b'LPTS', 1, 9)
     for marker in range(256):
-        record(6, b'\xff\xd8\xff' + bytes([marker]) + b'\0\2' + packet(1, b'', 8) + b'\xff\xda', b'LPTS', 1, 9)
+        record('every marker', b'\xff\xd8\xff' + bytes([marker]) + b'\0\2' + packet(1, b'', 8) + b'\xff\xda', b'LPTS', 1, 9)
     for _ in range(700):
-        record(7, rules['made'](rnd), b'LPTS', rnd.choice([1, 1, 2]), rnd.choice([0, 3, 30]))
+        record('files made at random', rules['made'](rnd), b'LPTS', rnd.choice([1, 1, 2]), rnd.choice([0, 3, 30]))
     picture = open(os.path.join(ROOT, 'pictures', 'finish.jpg'), 'rb').read()
-    record(8, picture, b'TONE', 1, 9000)
-    record(8, picture, b'FINE', 3, 9000)
-    with open(sys.argv[1], 'wb') as f:
-        f.write(struct.pack('<I', len(records)) + b''.join(records))
-    counts = {}
-    for body in records:
-        counts[body[0]] = counts.get(body[0], 0) + 1
-    with open(sys.argv[2], 'w') as f:
-        f.write(''.join(f'group {group}: {counts[group]} of {counts[group]} right\n' for group in sorted(counts)))
-    print(len(records), 'records,', os.path.getsize(sys.argv[1]), 'bytes')
+    record('the bundled picture', picture, b'TONE', 1, 9000)
+    record('the bundled picture', picture, b'FINE', 3, 9000)
+    write(records, sys.argv[1], sys.argv[2])
 
 
 main()

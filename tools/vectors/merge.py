@@ -1,7 +1,7 @@
 #!/usr/bin/env python3
 """Cases for the merge (01, "Merge") with exact fractions, written from the paper and from nothing else.
 
-  merge.py CASES LINES     writes the cases (32-bit words, lowest byte first) and the lines that are expected
+  merge.py CASES LINES     writes the cases (their number, then each: fourteen numbers, nine weights, three lists) and the lines that are expected
 
 crates/merge_vectors reads the cases on standard input and must write the lines:
   python3 tools/vectors/merge.py crates/merge_vectors/stdin crates/merge_vectors/stdout && rt check merge_vectors
@@ -9,6 +9,7 @@ crates/merge_vectors reads the cases on standard input and must write the lines:
 import random
 import sys
 from fractions import Fraction as F
+from fields import numbers, raw_sizes, raw_values
 
 FILL = 4660
 MIN, MAX = -2**31, 2**31 - 1
@@ -62,14 +63,10 @@ class Case:
         if self.room is None:
             self.room = len(self.base) + 2
 
-    def words(self):
-        w = [self.rb, self.rh, self.rr, self.components, self.pixels, self.base_transform, self.curve, self.matrix_on,
-             self.residual_on, self.residual_transform, len(self.base), len(self.residual), len(self.table), self.room]
-        w += [x + 2**15 for x in self.weights]
-        w += [x + 2**31 for x in self.base + self.residual]
-        w += self.table
-        assert all(0 <= x < 2**32 for x in w), w
-        return w
+    def packed(self):
+        head = [self.rb, self.rh, self.rr, self.components, self.pixels, self.base_transform, self.curve, self.matrix_on,
+                self.residual_on, self.residual_transform, len(self.base), len(self.residual), len(self.table), self.room]
+        return numbers(*head) + raw_sizes([x + 2**15 for x in self.weights]) + raw_values(self.base + self.residual) + raw_sizes(self.table)
 
     def answer(self):
         """Number, place and the samples handed out."""
@@ -233,15 +230,13 @@ def cases():
 
 
 def main():
-    words, lines = [], []
-    for c in cases():
-        words += c.words()
-        lines.append(c.line())
+    made = list(cases())
+    data = numbers(len(made)) + b''.join(c.packed() for c in made)
     with open(sys.argv[1], 'wb') as f:
-        f.write(b''.join(w.to_bytes(4, 'little') for w in words))
+        f.write(data)
     with open(sys.argv[2], 'w') as f:
-        f.write('\n'.join(lines) + '\n')
-    print(len(lines), 'cases,', 4 * len(words), 'bytes')
+        f.write(''.join(c.line() + '\n' for c in made))
+    print(len(made), 'cases,', len(data), 'bytes')
 
 
 if __name__ == '__main__':

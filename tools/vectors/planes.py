@@ -3,6 +3,7 @@
 software of JPEG XT, and from rules.py. README.md beside this file says what it needs. Prints what it made, a line for each group."""
 import math, os, random, struct, subprocess, sys, tempfile
 from rules import *
+from fields import lent, numbers, write
 
 HERE = os.path.dirname(os.path.abspath(__file__))
 TMP = tempfile.mkdtemp()
@@ -26,18 +27,12 @@ def sparse(values):
     return struct.pack('<II', len(values), entries) + bytes(out)
 
 
-def lent(data):
-    return struct.pack('<I', len(data)) + bytes(data)
-
-
 def record(group, kind, plane, blocks, room, values, answer, counts=b'', codes=b'', data=b''):
     number, place, out = answer
-    reads = kind in (READ_DC, READ_AC)
-    body = struct.pack('<BBIII', group, kind, plane, blocks, room) + lent(counts) + lent(codes) + lent(data) + sparse(values)
-    body += struct.pack('<II', number, place)
-    if number == 0:
-        body += sparse(out) if reads else lent(out)
-    records.append(body)
+    out = [] if number else out
+    expected = sparse(out) if kind in (READ_DC, READ_AC) else lent(out)
+    body = struct.pack('<BIII', kind, plane, blocks, room) + lent(counts) + lent(codes) + lent(data) + sparse(values)
+    records.append((group, body + numbers(number, place) + expected))
 
 
 def trip(group, plane, blocks, new, data, table=None):
@@ -49,8 +44,8 @@ def trip(group, plane, blocks, new, data, table=None):
         old = [v // 2 for v in new]
         assert read_dc(plane, blocks, data, old, blocks) == (0, blocks, new) and write_dc(plane, blocks, new, 10 ** 6) == (0, len(data), data)
     counts, codes = table or (b'', b'')
-    body = struct.pack('<BBIII', group, TRIP_AC if table else TRIP_DC, plane, blocks, len(data)) + lent(counts) + lent(codes) + lent(data) + sparse(new)
-    records.append(body + struct.pack('<II', 0, 0))
+    body = struct.pack('<BIII', TRIP_AC if table else TRIP_DC, plane, blocks, len(data)) + lent(counts) + lent(codes) + lent(data) + sparse(new)
+    records.append((group, body + numbers(0, 0)))
 
 
 # ---- pictures
@@ -123,19 +118,19 @@ def from_libjpeg(width, height, planes, quality, picture):
         if first == 0:
             old, new = [b[0] >> high for b in before], [b[0] >> low for b in after]
             assert old == [v // 2 for v in new]
-            trip(1, plane, blocks, new, bytes_)
+            trip('DC planes of libjpeg', plane, blocks, new, bytes_)
         else:
             level = lambda list_, shift: [(abs(v) >> shift) * (1 if v > 0 else -1) for b in list_ for v in b[1:]]
             old, new = level(before, high), level(after, low)
             assert old == [half(v) for v in new] and read_ac(plane, blocks, *table, bytes_, old, 63 * blocks) == (0, 63 * blocks, new)
             ours = write_ac(plane, blocks, *table, new, 10 ** 6)
             if ours == (0, len(bytes_), bytes_):
-                trip(2, plane, blocks, new, bytes_, table)
+                trip('AC planes of libjpeg', plane, blocks, new, bytes_, table)
             else:
                 different += 1
                 print(f'  plane {plane} of {blocks} blocks: libjpeg wrote {len(bytes_)} bytes, the longest end runs give (number, place) {ours[:2]}')
-                record(3, READ_AC, plane, blocks, 63 * blocks, old, (0, 63 * blocks, new), *table, data=bytes_)
-                record(3, WRITE_AC, plane, blocks, 100000, new, ours, *table)
+                record('AC planes of libjpeg that end a run early, read, and written by the rules', READ_AC, plane, blocks, 63 * blocks, old, (0, 63 * blocks, new), *table, data=bytes_)
+                record('AC planes of libjpeg that end a run early, read, and written by the rules', WRITE_AC, plane, blocks, 100000, new, ours, *table)
     return different
 
 
@@ -173,9 +168,9 @@ def from_reference(width, height, planes, noise, seed, residual):
     more = ['-Q', '85', '-r', '-rR', str(planes)] if residual else []
     subprocess.run(['jpeg', '-q', '90' if not residual else '80', '-R', str(planes), '-h'] + more + [picture, out], check=True, capture_output=True)
     jpeg = open(out, 'rb').read()
-    refined((4, 5), coefficients(jpeg), boxes(jpeg, b'FINE'), planes)
+    refined(('DC planes of FINE boxes', 'AC planes of FINE boxes'), coefficients(jpeg), boxes(jpeg, b'FINE'), planes)
     if residual:
-        refined((19, 20), coefficients(boxes(jpeg, b'RESI')[0]), boxes(jpeg, b'RFIN'), planes)
+        refined(('DC planes of RFIN boxes', 'AC planes of RFIN boxes'), coefficients(boxes(jpeg, b'RESI')[0]), boxes(jpeg, b'RFIN'), planes)
 
 
 ALL = bytes(16 * r for r in range(16)) + bytes(16 * r + 1 for r in range(16))
@@ -205,70 +200,70 @@ def counts_and_runs(rnd):
     for blocks in (0, 1, 2, 63, 1023, 1024):
         for plane in (1, 4):
             values = some_values(rnd, blocks, plane, 0.5, dc=True)
-            trip(6, plane, blocks, values, write_dc(plane, blocks, values, 10 ** 6)[2])
+            trip('DC planes of 0 to 1024 blocks', plane, blocks, values, write_dc(plane, blocks, values, 10 ** 6)[2])
             values = some_values(rnd, 63 * blocks, plane, 0.02 if blocks < 100 else 0.001)
-            trip(7, plane, blocks, values, write_ac(plane, blocks, SIX, ALL, values, 10 ** 6)[2], (SIX, ALL))
+            trip('AC planes of 0 to 1024 blocks', plane, blocks, values, write_ac(plane, blocks, SIX, ALL, values, 10 ** 6)[2], (SIX, ALL))
     for run in (1, 2, 3, 4, 7, 8, 15, 16, 31, 32, 63, 64, 127, 128, 255, 256, 511, 512, 1023):
         values = [1] + [0] * (63 * run + 62)
-        trip(8, 1, run + 1, values, write_ac(1, run + 1, SIX, ALL, values, 10 ** 6)[2], (SIX, ALL))
+        trip('end runs of 1 to 1023 blocks', 1, run + 1, values, write_ac(1, run + 1, SIX, ALL, values, 10 ** 6)[2], (SIX, ALL))
     for zeros in (14, 15, 16, 17, 30, 31, 32, 33, 47, 48, 49, 61, 62):
         for kept in (0, 1):
             values = [0] * zeros + [-1] + [0] * (62 - zeros)
             if kept and zeros > 20:
                 values[5] = 6
                 values[20] = -5
-            trip(9, 2, 1, values, write_ac(2, 1, SIX, ALL, values, 10 ** 6)[2], (SIX, ALL))
+            trip('zeros before a new value', 2, 1, values, write_ac(2, 1, SIX, ALL, values, 10 ** 6)[2], (SIX, ALL))
 
 
 def refusals(rnd):
     zeros = [0] * 63
     for plane in (0, 1, 4, 5):
         for blocks, length in ((1, 63), (1, 62), (1024, 63), (1025, 63)):
-            by_rules(10, READ_AC, plane, blocks, 63, [0] * length, *T, data=b'\x67')
-            by_rules(10, WRITE_AC, plane, blocks, 63, [0] * length, *T)
-            by_rules(10, READ_DC, plane, blocks, 63, [0] * (length // 62), data=b'\x67')
-            by_rules(10, WRITE_DC, plane, blocks, 63, [0] * (length // 62))
+            by_rules('counts and planes out of range, lists of another length', READ_AC, plane, blocks, 63, [0] * length, *T, data=b'\x67')
+            by_rules('counts and planes out of range, lists of another length', WRITE_AC, plane, blocks, 63, [0] * length, *T)
+            by_rules('counts and planes out of range, lists of another length', READ_DC, plane, blocks, 63, [0] * (length // 62), data=b'\x67')
+            by_rules('counts and planes out of range, lists of another length', WRITE_DC, plane, blocks, 63, [0] * (length // 62))
     bad_tables = [(b'', b''), (bytes(15), b'\0'), (bytes(17), b''), (bytes(16), b''), (bytes([1] + [0] * 15), b''), (bytes([2] + [0] * 15), b'\0\1'),
                   (bytes([0, 2] + [0] * 14), b'\0\0'), (bytes([0, 3] + [0] * 14), b'\0\1'), (bytes([1] * 15 + [2]), bytes(range(17))), (bytes([1] * 16), bytes(range(16))),
                   (bytes([0] * 8 + [255] + [0] * 7), bytes(range(255))), (bytes([0] * 15 + [255]), bytes(range(255)))]
     for table in bad_tables:
-        by_rules(11, READ_AC, 1, 1, 63, zeros, *table, data=b'\x67')
-        by_rules(11, WRITE_AC, 1, 1, 63, zeros, *table)
+        by_rules('tables', READ_AC, 1, 1, 63, zeros, *table, data=b'\x67')
+        by_rules('tables', WRITE_AC, 1, 1, 63, zeros, *table)
     for level in range(1, 5):
         for v in ((1 << 10 + level) - 1, 1 << 10 + level, -(1 << 10 + level), -(1 << 10 + level) - 1):
             for at in (0, 62):
                 values = zeros[:at] + [v] + zeros[at + 1:]
-                by_rules(12, READ_AC, level, 1, 63, values, *T, data=b'\x43')
-                by_rules(12, READ_DC, level, 63, 63, values, data=b'\x43')
+                by_rules('values at the ends of their ranges', READ_AC, level, 1, 63, values, *T, data=b'\x43')
+                by_rules('values at the ends of their ranges', READ_DC, level, 63, 63, values, data=b'\x43')
                 if level < 4:
-                    by_rules(12, WRITE_AC, level - 1, 1, 63, values, *T)
-                by_rules(12, WRITE_DC, max(1, level - 1), 63, 63, values)
+                    by_rules('values at the ends of their ranges', WRITE_AC, level - 1, 1, 63, values, *T)
+                by_rules('values at the ends of their ranges', WRITE_DC, max(1, level - 1), 63, 63, values)
     for room in (0, 62, 63):
-        by_rules(13, READ_AC, 1, 1, room, zeros, *T, data=b'\x3f')
-        by_rules(13, READ_DC, 1, 63, room, zeros, data=b'\x3f' * 8)
+        by_rules('room', READ_AC, 1, 1, room, zeros, *T, data=b'\x3f')
+        by_rules('room', READ_DC, 1, 63, room, zeros, data=b'\x3f' * 8)
     for values in ([1] * 8, [1] * 16, [0] * 9, [1] * 7):
         for room in range(6):
-            by_rules(13, WRITE_DC, 1, len(values), room, values)
+            by_rules('room', WRITE_DC, 1, len(values), room, values)
     for room in range(3):
-        by_rules(13, WRITE_AC, 1, 1, room, [1] * 9 + [0] * 54, *T)
+        by_rules('room', WRITE_AC, 1, 1, room, [1] * 9 + [0] * 54, *T)
     for missing in (0x00, 0x01, 0xF0, 0x31, 0x50):
         codes = bytes(c for c in ALL if c != missing)
         table = (bytes([0, 0, 0, 0, 0, 31] + [0] * 10), codes)
         for blocks, values in ((1, [1] + [0] * 62), (1, [0] * 3 + [1] + [0] * 59), (1, [0] * 20 + [1] + [0] * 42), (40, [0] * 63 * 40)):
-            by_rules(14, WRITE_AC, 1, blocks, 100, values, *table)
+            by_rules('a code that the table lacks', WRITE_AC, 1, blocks, 100, values, *table)
     for blocks in (1, 2, 9):
         for data in (b'', b'\xff', b'\xff\x01', b'\xff\x00', b'\xff\x00\xff', b'\xff\x00\xff\xff', b'\xbf', b'\xbf\xff', b'\xbf\xff\x01', b'\x3f\xff\x00', b'\x00'):
-            by_rules(15, READ_DC, 1, blocks, blocks, [3] * blocks, data=data)
-            by_rules(15, READ_AC, 1, blocks, 63 * blocks, zeros * blocks, *T, data=data)
-            by_rules(15, READ_AC, 1, blocks, 63 * blocks, [3] * 63 * blocks, *T, data=data)
-    by_rules(15, READ_DC, 1, 0, 0, [], data=b'\xff')
-    by_rules(15, READ_AC, 1, 0, 0, [], *T, data=b'\x00')
+            by_rules('data that end early or late', READ_DC, 1, blocks, blocks, [3] * blocks, data=data)
+            by_rules('data that end early or late', READ_AC, 1, blocks, 63 * blocks, zeros * blocks, *T, data=data)
+            by_rules('data that end early or late', READ_AC, 1, blocks, 63 * blocks, [3] * 63 * blocks, *T, data=data)
+    by_rules('data that end early or late', READ_DC, 1, 0, 0, [], data=b'\xff')
+    by_rules('data that end early or late', READ_AC, 1, 0, 0, [], *T, data=b'\x00')
     odd = (SIX, bytes([0x00, 0x01, 0x02, 0x13, 0xF1, 0xFF, 0xE0]) + bytes(range(0x80, 0x99)))
     for _ in range(150):
         blocks = rnd.choice([1, 2, 3, 20])
         values = [half(v) for v in some_values(rnd, 63 * blocks, 2, rnd.choice([0, 0.1, 0.8]))]
         data = bytes(rnd.choice([0, 1, 0x55, 0xFF, rnd.randrange(256)]) for _ in range(rnd.choice([1, 3, 8, 40])))
-        by_rules(16, READ_AC, 2, blocks, 63 * blocks, values, *rnd.choice([T, odd, (SIX, ALL)]), data=data)
+        by_rules('random data', READ_AC, 2, blocks, 63 * blocks, values, *rnd.choice([T, odd, (SIX, ALL)]), data=data)
     for _ in range(150):
         blocks = rnd.choice([1, 2, 5])
         values = some_values(rnd, 63 * blocks, 3, rnd.choice([0.02, 0.2, 0.9]))
@@ -279,10 +274,10 @@ def refusals(rnd):
         for _ in range(rnd.choice([0, 1, 1, 2])):
             if data:
                 data[rnd.randrange(len(data))] ^= 1 << rnd.randrange(8)
-        by_rules(17, READ_AC, 3, blocks, 63 * blocks, [half(v) for v in values], SIX, ALL, bytes(data))
+        by_rules('damaged data', READ_AC, 3, blocks, 63 * blocks, [half(v) for v in values], SIX, ALL, bytes(data))
     for _ in range(60):
         blocks = rnd.choice([1, 2, 5])
-        by_rules(18, WRITE_AC, 3, blocks, rnd.choice([3, 50, 500]), some_values(rnd, 63 * blocks, 3, rnd.choice([0.02, 0.2, 0.9])), *rnd.choice([T, (SIX, ALL)]))
+        by_rules('AC planes written with little room or few codes', WRITE_AC, 3, blocks, rnd.choice([3, 50, 500]), some_values(rnd, 63 * blocks, 3, rnd.choice([0.02, 0.2, 0.9])), *rnd.choice([T, (SIX, ALL)]))
 
 
 def main():
@@ -298,14 +293,8 @@ def main():
         from_reference(40, 32, planes, 8, planes, True)
     counts_and_runs(rnd)
     refusals(rnd)
-    with open(sys.argv[1], 'wb') as f:
-        f.write(struct.pack('<I', len(records)) + b''.join(records))
-    counts = {}
-    for body in records:
-        counts[body[0]] = counts.get(body[0], 0) + 1
-    with open(sys.argv[2], 'w') as f:
-        f.write(''.join(f'group {group}: {counts[group]} of {counts[group]} right\n' for group in sorted(counts)))
-    print(f'{len(records)} records, {os.path.getsize(sys.argv[1])} bytes; libjpeg differs in {different} planes')
+    write(records, sys.argv[1], sys.argv[2])
+    print(f'libjpeg differs in {different} planes')
 
 
 main()

@@ -8,10 +8,9 @@ Nothing is taken from crates/: the zigzag order is walked step by step, each ker
 itself (which must be one of 01's nine values up to its sign), the sums are exact integers, and each sample is also held to
 T.81's real formula.
 
-stdin: a line with the number of groups; for each group a line with its number of cases and its name, then a line for each case:
-values, quantisers and places lent; R, blocks, number and place to be answered; the values; the quantisers; all that the
-destination must hold after the call. Before it, the destination holds 0, 1, 2, .."""
+A record is R, blocks, room, number and place to be answered; the values; the quantisers; and what the call must hand out. Before it, the destination holds sevens."""
 import math, os, random, sys
+import fields
 
 NINE = [8192, 8035, 7568, 6811, 5793, 4551, 3135, 1598, 0]
 
@@ -78,8 +77,8 @@ def in_range(level, i, value):
 
 
 def answer(r, blocks, values, quantisers, room):
-    """Number, place and destination, the refusals in 01's order: 20, 21, 22, 11, 9."""
-    refused = lambda number, place: (number, place, [0] * room)
+    """Number, place and what is handed out, the refusals in 01's order: 20, 21, 22, 11, 9."""
+    refused = lambda number, place: (number, place, [])
     if r > 4 or blocks > 1024:
         return refused(20, 0)
     if len(values) != 64 * blocks or len(quantisers) != 64:
@@ -93,19 +92,17 @@ def answer(r, blocks, values, quantisers, room):
     if room < 64 * blocks:
         return refused(9, 64 * blocks)
     written = [s for b in range(blocks) for s in samples(r, values[64 * b:64 * b + 64], quantisers)]
-    return 0, len(written), written + list(range(len(written), room))
+    return 0, len(written), written
 
 
-GROUPS = []
+RECORDS = []
 
 
 def group(name, cases):
-    lines = []
     for wanted, (r, blocks, values, quantisers, room) in cases:
-        number, place, destination = answer(r, blocks, values, quantisers, room)
+        number, place, written = answer(r, blocks, values, quantisers, room)
         assert wanted in (None, (number, place)), (name, wanted, number, place)
-        lines.append(' '.join(map(str, [len(values), len(quantisers), room, r, blocks, number, place, *values, *quantisers, *destination])))
-    GROUPS.append((name, lines))
+        RECORDS.append((name, fields.numbers(r, blocks, room, number, place) + fields.values(values) + fields.sizes(quantisers) + fields.values(written)))
 
 
 rng = random.Random(18477)
@@ -173,22 +170,10 @@ group('the order of refusals', [
     ((22, 8), (0, 1, one_at(1, 9999), q_at(8, 0), 1)), ((22, 8), (0, 1, ZEROS, q_at(8, 999), 1)),
     ((11, 1), (0, 1, one_at(1, 9999), ONES, 1)), ((9, 64), (0, 1, ZEROS, ONES, 1))])
 
-stdin = f'{len(GROUPS)} groups\n' + ''.join(f'{len(lines)} {name}\n' + ''.join(line + '\n' for line in lines) for name, lines in GROUPS)
-stdout = ''.join(f'{name}: {len(lines)} of {len(lines)} right\n' for name, lines in GROUPS)
-count = sum(len(lines) for _, lines in GROUPS)
-stdout += f'total: {count} of {count} right\n'
-assert len(stdin) <= 262144, len(stdin)
-
 folder = os.path.join(os.path.dirname(os.path.abspath(__file__)), '..', '..', 'crates', 'transform_vectors')
-bad = 0
-for name, text in (('stdin', stdin), ('stdout', stdout)):
-    path = os.path.join(folder, name)
-    if '--check' in sys.argv[1:]:
-        same = os.path.exists(path) and open(path).read() == text
-        print(f'{name}: {"as computed here" if same else "NOT as computed here"}')
-        bad += not same
-    else:
-        with open(path, 'w') as f:
-            f.write(text)
-        print(f'{name}: {len(text)} bytes, {count} cases')
-sys.exit(bad)
+stdin, stdout = (os.path.join(folder, name) for name in ('stdin', 'stdout'))
+if '--check' in sys.argv[1:]:
+    same = open(stdin, 'rb').read() == fields.data(RECORDS) and open(stdout).read() == fields.text(RECORDS)
+    print('as computed here' if same else 'NOT as computed here')
+    sys.exit(not same)
+fields.write(RECORDS, stdin, stdout)

@@ -1,60 +1,6 @@
-// Runs the vectors that tools/vectors/planes.py made through the calls on planes: a line for each group, and a total.
-ghost use Prim.Native.Nat.{_≤_, _<_};
+// Runs the vectors that tools/vectors/planes.py made through the calls on planes: a line for each group.
 use answers::Answer;
-
-fn wide(x: u8) -> usize
-    ensures { λ r. ⌜ r < 256 ⌝ }
-{
-    x as usize
-}
-
-// The position n further on, or the end.
-fn past(length: usize, at: usize, n: usize) -> usize
-    ensures { λ r. ⌜ r ≤ length ⌝ }
-{
-    if at <= length {
-        if n <= length - at {
-            return at + n;
-        }
-    }
-    length
-}
-
-// A byte, or 0 past the end.
-fn byte_at(bytes: &[u8], at: usize) -> usize
-    ensures { λ r. ⌜ r < 256 ⌝ }
-{
-    if at < bytes.len() {
-        return wide(bytes[at]);
-    }
-    0
-}
-
-// Two bytes, the low one first.
-fn pair_at(bytes: &[u8], at: usize) -> usize
-    ensures { λ r. ⌜ r < 65536 ⌝ }
-{
-    let next = past(bytes.len(), at, 1);
-    byte_at(bytes, at) + 256 * byte_at(bytes, next)
-}
-
-// Four bytes, the low ones first.
-fn number_at(bytes: &[u8], at: usize) -> usize
-    ensures { λ r. ⌜ r < 4294967296 ⌝ }
-{
-    let next = past(bytes.len(), at, 2);
-    pair_at(bytes, at) + 65536 * pair_at(bytes, next)
-}
-
-// n bytes from a position, or none where there are not so many.
-fn part<'a>(bytes: &'a [u8], at: usize, n: usize) -> &'a [u8] {
-    if at <= bytes.len() {
-        if n <= bytes.len() - at {
-            return &bytes[at..at + n];
-        }
-    }
-    &bytes[0..0]
-}
+use tallies::Ran;
 
 // A number that stands `above` too high.
 fn lowered(x: usize, above: usize) -> i32 {
@@ -74,14 +20,14 @@ struct Entry {
 }
 
 fn entry_at(bytes: &[u8], at: usize) -> Entry {
-    let gap = byte_at(bytes, at);
-    let next = past(bytes.len(), at, 1);
-    let small = pair_at(bytes, next);
+    let gap = records::byte_at(bytes, at);
+    let next = records::past(bytes.len(), at, 1);
+    let small = records::pair_at(bytes, next);
     if small == 32768 {
-        let far = past(bytes.len(), at, 3);
+        let far = records::past(bytes.len(), at, 3);
         return Entry {
             gap,
-            value: lowered(number_at(bytes, far), 1048576),
+            value: lowered(records::number_at(bytes, far), 1048576),
             size: 7,
         };
     }
@@ -113,13 +59,13 @@ fn spread(bytes: &[u8], from: usize, entries: usize, values: &mut [i32]) -> usiz
     let mut i = 0;
     while i < entries {
         let e = entry_at(bytes, at);
-        place = past(values.len(), place, e.gap);
-        at = past(bytes.len(), at, e.size);
+        place = records::past(values.len(), place, e.gap);
+        at = records::past(bytes.len(), at, e.size);
         if e.gap == 255 {
             i += 1;
         } else {
             put(values, place, e.value);
-            place = past(values.len(), place, 1);
+            place = records::past(values.len(), place, 1);
             i += 1;
         }
     }
@@ -128,7 +74,6 @@ fn spread(bytes: &[u8], from: usize, entries: usize, values: &mut [i32]) -> usiz
 
 // A record of the file: the numbers before its values, and where its parts stand.
 struct Case {
-    group: usize,
     kind: usize,
     plane: u32,
     blocks: usize,
@@ -141,88 +86,32 @@ struct Case {
 
 fn case_at(bytes: &[u8], at: usize) -> Case {
     let end = bytes.len();
-    let counts = past(end, at, 14);
-    let codes = past(end, past(end, counts, 4), number_at(bytes, counts));
-    let data = past(end, past(end, codes, 4), number_at(bytes, codes));
-    let values = past(end, past(end, data, 4), number_at(bytes, data));
+    let counts = records::past(end, at, 17);
+    let codes = records::past(
+        end,
+        records::past(end, counts, 4),
+        records::number_at(bytes, counts),
+    );
+    let data = records::past(
+        end,
+        records::past(end, codes, 4),
+        records::number_at(bytes, codes),
+    );
+    let values = records::past(
+        end,
+        records::past(end, data, 4),
+        records::number_at(bytes, data),
+    );
     Case {
-        group: byte_at(bytes, at),
-        kind: byte_at(bytes, past(end, at, 1)),
-        plane: number_at(bytes, past(end, at, 2)) as u32,
-        blocks: number_at(bytes, past(end, at, 6)),
-        room: number_at(bytes, past(end, at, 10)),
+        kind: records::byte_at(bytes, records::past(end, at, 4)),
+        plane: records::number_at(bytes, records::past(end, at, 5)) as u32,
+        blocks: records::number_at(bytes, records::past(end, at, 9)),
+        room: records::number_at(bytes, records::past(end, at, 13)),
         counts,
         codes,
         data,
         values,
     }
-}
-
-// The lent bytes that stand behind their length.
-fn lent<'a>(bytes: &'a [u8], at: usize) -> &'a [u8] {
-    let n = number_at(bytes, at);
-    part(bytes, past(bytes.len(), at, 4), n)
-}
-
-fn fill_values(values: &mut [i32], v: i32) {
-    let mut i = 0;
-    while i < values.len() {
-        values[i] = v;
-        i += 1;
-    }
-}
-
-fn fill_bytes(bytes: &mut [u8], v: u8) {
-    let mut i = 0;
-    while i < bytes.len() {
-        bytes[i] = v;
-        i += 1;
-    }
-}
-
-// What a value should be: zero after a refusal, else the one expected, and past those what stood there before.
-fn wanted(expected: &[i32], i: usize, number: usize) -> i32 {
-    if number != 0 {
-        return 0;
-    }
-    if i < expected.len() {
-        return expected[i];
-    }
-    7
-}
-
-fn right_values(output: &[i32], expected: &[i32], number: usize) -> bool {
-    let mut i = 0;
-    while i < output.len() {
-        let want = wanted(expected, i, number);
-        if output[i] != want {
-            return false;
-        }
-        i += 1;
-    }
-    true
-}
-
-fn wanted_byte(expected: &[u8], i: usize, number: usize) -> u8 {
-    if number != 0 {
-        return 0;
-    }
-    if i < expected.len() {
-        return expected[i];
-    }
-    7
-}
-
-fn right_bytes(output: &[u8], expected: &[u8], number: usize) -> bool {
-    let mut i = 0;
-    while i < output.len() {
-        let want = wanted_byte(expected, i, number);
-        if output[i] != want {
-            return false;
-        }
-        i += 1;
-    }
-    true
 }
 
 // Calls 1 and 2 are DC planes read and written, 3 and 4 AC, 5 and 6 both ways.
@@ -233,20 +122,12 @@ fn is_ac(kind: usize) -> bool {
     }
 }
 
-// Whether a call gave this number and place.
-fn answered(a: Answer, number: usize, place: usize) -> bool {
-    if a.number as usize != number {
-        return false;
-    }
-    a.place == place
-}
-
 // The call that a record asks for, on its data and its table.
 fn read_plane(bytes: &[u8], c: Case, values: &[i32], output: &mut [i32]) -> Answer {
-    let data = lent(bytes, c.data);
+    let data = records::lent(bytes, c.data);
     if is_ac(c.kind) {
-        let counts = lent(bytes, c.counts);
-        let codes = lent(bytes, c.codes);
+        let counts = records::lent(bytes, c.counts);
+        let codes = records::lent(bytes, c.codes);
         return ac_reader::read_ac(c.plane, c.blocks, counts, codes, data, values, output);
     }
     planes::read_dc(c.plane, c.blocks, data, values, output)
@@ -254,8 +135,8 @@ fn read_plane(bytes: &[u8], c: Case, values: &[i32], output: &mut [i32]) -> Answ
 
 fn write_plane(bytes: &[u8], c: Case, values: &[i32], output: &mut [u8]) -> Answer {
     if is_ac(c.kind) {
-        let counts = lent(bytes, c.counts);
-        let codes = lent(bytes, c.codes);
+        let counts = records::lent(bytes, c.counts);
+        let codes = records::lent(bytes, c.codes);
         return ac_writer::write_ac(c.plane, c.blocks, counts, codes, values, output);
     }
     planes::write_dc(c.plane, c.blocks, values, output)
@@ -271,12 +152,9 @@ fn reads(
     place: usize,
     output: &mut [i32],
 ) -> bool {
-    fill_values(output, 7);
     let a = read_plane(bytes, c, values, output);
-    if !answered(a, number, place) {
-        return false;
-    }
-    right_values(output, expected, number)
+    let wrong = tallies::first_wrong_value(output, expected, number);
+    tallies::right(a, number, place, wrong)
 }
 
 // The same for a plane that is written.
@@ -289,12 +167,9 @@ fn writes(
     place: usize,
     output: &mut [u8],
 ) -> bool {
-    fill_bytes(output, 7);
     let a = write_plane(bytes, c, values, output);
-    if !answered(a, number, place) {
-        return false;
-    }
-    right_bytes(output, expected, number)
+    let wrong = tallies::first_wrong_byte(output, expected, number);
+    tallies::right(a, number, place, wrong)
 }
 
 // Half: downward for DC, toward zero for AC.
@@ -310,17 +185,11 @@ fn halve(ac: bool, values: &[i32], halves: &mut [i32]) {
     }
 }
 
-// A record was run: whether it was right, and where the next one stands.
-struct Ran {
-    good: bool,
-    next: usize,
-}
-
 fn failed(next: usize) -> Ran {
     Ran { good: false, next }
 }
 
-// A record that reads: behind number and place stand the values expected, unless it is refused.
+// A record that reads: behind number and place stand the values expected.
 fn run_read(
     bytes: &[u8],
     c: Case,
@@ -330,30 +199,17 @@ fn run_read(
     output: &mut [i32],
 ) -> Ran {
     let end = bytes.len();
-    let number = number_at(bytes, at);
-    let place = number_at(bytes, past(end, at, 4));
-    let out = past(end, at, 8);
+    let number = records::number_at(bytes, at);
+    let place = records::number_at(bytes, records::past(end, at, 4));
+    let out = records::past(end, at, 8);
+    let n = records::number_at(bytes, out);
+    let entries = records::number_at(bytes, records::past(end, out, 4));
+    let next = spread(bytes, records::past(end, out, 8), entries, other);
     let room = c.room;
-    if output.len() < room {
-        return failed(out);
-    }
-    if number != 0 {
-        let good = reads(
-            bytes,
-            c,
-            values,
-            &other[0..0],
-            number,
-            place,
-            &mut output[0..room],
-        );
-        return Ran { good, next: out };
-    }
-    let n = number_at(bytes, out);
-    let entries = number_at(bytes, past(end, out, 4));
-    fill_values(other, 0);
-    let next = spread(bytes, past(end, out, 8), entries, other);
     if other.len() < n {
+        return failed(next);
+    }
+    if output.len() < room {
         return failed(next);
     }
     let good = reads(
@@ -371,27 +227,15 @@ fn run_read(
 // A record that writes: behind number and place stand the bytes expected.
 fn run_write(bytes: &[u8], c: Case, at: usize, values: &[i32], coded: &mut [u8]) -> Ran {
     let end = bytes.len();
-    let number = number_at(bytes, at);
-    let place = number_at(bytes, past(end, at, 4));
-    let out = past(end, at, 8);
+    let number = records::number_at(bytes, at);
+    let place = records::number_at(bytes, records::past(end, at, 4));
+    let out = records::past(end, at, 8);
+    let expected = records::lent(bytes, out);
+    let next = records::past(end, records::past(end, out, 4), expected.len());
     let room = c.room;
     if coded.len() < room {
-        return failed(out);
+        return failed(next);
     }
-    if number != 0 {
-        let good = writes(
-            bytes,
-            c,
-            values,
-            &bytes[0..0],
-            number,
-            place,
-            &mut coded[0..room],
-        );
-        return Ran { good, next: out };
-    }
-    let expected = lent(bytes, out);
-    let next = past(end, past(end, out, 4), expected.len());
     let good = writes(
         bytes,
         c,
@@ -414,7 +258,7 @@ fn run_trip(
     output: &mut [i32],
     coded: &mut [u8],
 ) -> Ran {
-    let next = past(bytes.len(), at, 8);
+    let next = records::past(bytes.len(), at, 8);
     let n = values.len();
     let room = c.room;
     if other.len() < n {
@@ -427,7 +271,7 @@ fn run_trip(
         return failed(next);
     }
     halve(is_ac(c.kind), values, other);
-    let data = lent(bytes, c.data);
+    let data = records::lent(bytes, c.data);
     if !reads(bytes, c, &other[0..n], values, 0, n, &mut output[0..n]) {
         return failed(next);
     }
@@ -435,8 +279,8 @@ fn run_trip(
     Ran { good, next }
 }
 
-// The record at a position.
-fn run_record(
+// The record at a position, over lent arrays: zeros for its values and for others, sevens for what is handed out.
+fn run_lent(
     bytes: &[u8],
     at: usize,
     values: &mut [i32],
@@ -446,10 +290,9 @@ fn run_record(
 ) -> Ran {
     let c = case_at(bytes, at);
     let end = bytes.len();
-    let n = number_at(bytes, c.values);
-    let entries = number_at(bytes, past(end, c.values, 4));
-    fill_values(values, 0);
-    let next = spread(bytes, past(end, c.values, 8), entries, values);
+    let n = records::number_at(bytes, c.values);
+    let entries = records::number_at(bytes, records::past(end, c.values, 4));
+    let next = spread(bytes, records::past(end, c.values, 8), entries, values);
     if values.len() < n {
         return failed(next);
     }
@@ -462,83 +305,24 @@ fn run_record(
     run_write(bytes, c, next, &values[0..n], coded)
 }
 
-// One more if so asked, where there is such a count.
-fn tick(counts: &mut [u64], i: usize, asked: bool) {
-    if asked {
-        if i < counts.len() {
-            let n = counts[i];
-            if n < 1000000 {
-                counts[i] = n + 1;
-            }
-        }
-    }
+fn run_record(bytes: &[u8], at: usize) -> Ran {
+    let mut values = [0i32; 65536];
+    let mut other = [0i32; 65536];
+    let mut output = [7i32; 65536];
+    let mut coded = [7u8; 100000];
+    run_lent(bytes, at, &mut values, &mut other, &mut output, &mut coded)
 }
 
-// All records: how many of each group there are, and how many were right.
-fn run_all(
-    bytes: &[u8],
-    all: &mut [u64],
-    right: &mut [u64],
-    values: &mut [i32],
-    other: &mut [i32],
-    output: &mut [i32],
-    coded: &mut [u8],
-) {
-    let records = number_at(bytes, 0);
-    let mut at = 4;
-    let mut i = 0;
-    while i < records {
-        let group = byte_at(bytes, at);
-        let ran = run_record(bytes, at, values, other, output, coded);
-        tick(all, group, true);
-        tick(right, group, ran.good);
-        at = ran.next;
-        i += 1;
-    }
-}
-
-// A line: a word, a number, how many were right and how many there are.
-fn line(group: u64, right: u64, all: u64) {
-    io::write_all(1, b"group ");
-    io::print_decimal(1, group);
-    io::write_all(1, b": ");
-    io::print_decimal(1, right);
-    io::write_all(1, b" of ");
-    io::print_decimal(1, all);
-    io::write_all(1, b" right\n");
-}
-
-fn report(all: &[u64; 64], right: &[u64; 64]) {
-    let mut group = 0;
-    while group < 64 {
-        let n = all[group];
-        if 0 < n {
-            line(group as u64, right[group], n);
-        }
-        group += 1;
+fn run_all(bytes: &[u8]) {
+    let mut run = tallies::begun(bytes);
+    while 0 < run.left {
+        let ran = run_record(bytes, run.at);
+        run = tallies::after(bytes, run, ran);
     }
 }
 
 fn main() {
     let mut file = [0u8; 400000];
     let got = io::read_full(0, &mut file);
-    let mut all = [0u64; 64];
-    let mut right = [0u64; 64];
-    let mut values = [0i32; 65536];
-    let mut other = [0i32; 65536];
-    let mut output = [0i32; 65536];
-    let mut coded = [0u8; 100000];
-    if 400000 < got {
-        return;
-    }
-    run_all(
-        &file[0..got],
-        &mut all,
-        &mut right,
-        &mut values,
-        &mut other,
-        &mut output,
-        &mut coded,
-    );
-    report(&all, &right);
+    run_all(&file[..got]);
 }

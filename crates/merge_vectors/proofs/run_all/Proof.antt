@@ -1,14 +1,14 @@
--- `merge_vectors::run_all` is safe and ends: each case has words. Assumes nothing.
+-- `merge_vectors::run_all` is safe and ends. Assumes nothing.
+use Prim.Native.Nat.{_≤_, _-_}
 use borrow.Author.Needs.{needs}
-use Prim.Native.Nat.{_-_, _≤_}
 use Rattle.merge_vectors.proofs.run_all.Statement.{statement}
 use Rattle.merge_vectors.proofs.run_all.Tie as tie
 
 abbrev Inv-loop : tie.InvT-loop
-Inv-loop file n at₀ at = n ≤ 65536
+Inv-loop bytes cases at₀ i₀ at i = 0 ≤ i
 
 abbrev μ-loop : tie.MeasureT-loop
-μ-loop file n at₀ at = n - at
+μ-loop bytes cases at₀ i₀ at i = cases - i
 
 pub run-all-spec : {M : Type 1} → statement M
 run-all-spec =

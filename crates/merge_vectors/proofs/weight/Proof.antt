@@ -5,21 +5,21 @@ use lib.IntN.{pos, _-ℤ_}
 use mir.Syntax.{w16, w32}
 use mir.Val.{SFits}
 use mir.Facts.{toZ-ofZ, toZ-pos, sfits-widen}
-use Rattle.merge_vectors.proofs.Laws.{less-half}
+use Rattle.records.proofs.Fields.{less-half}
 use Rattle.merge_vectors.proofs.weight.Statement.{statement}
 use Rattle.merge_vectors.proofs.weight.Tie as tie
 
-fits : (c : tie.Else1) → SFits w16 (pos (c .before .args .w) -ℤ pos 32768)
-fits c = record { sfits = less-half 32768 (c .before .args .w) (omega arith) (omega arith) }
+fits : (c : tie.After-pair-at) → SFits w16 (pos (c .pair-at .result) -ℤ pos 32768)
+fits c = record { sfits = less-half 32768 (c .pair-at .result) (omega arith) (omega arith) }
 
-wider : (c : tie.Else1) → SFits w32 (pos (c .before .args .w) -ℤ pos 32768)
+wider : (c : tie.After-pair-at) → SFits w32 (pos (c .pair-at .result) -ℤ pos 32768)
 wider c = sfits-widen tt (fits c)
 
 sub-v : tie.Need-sub-v
-sub-v c = rw (toZ-pos w32 {n = c .before .args .w} (omega arith)) (wider c)
+sub-v c = rw (toZ-pos w32 {n = c .pair-at .result} (omega arith)) (wider c)
 
 cast-result : tie.Need-cast-result
-cast-result c = rw (toZ-pos w32 {n = c .before .args .w} (omega arith), toZ-ofZ (wider c)) (fits c)
+cast-result c = rw (toZ-pos w32 {n = c .pair-at .result} (omega arith), toZ-ofZ (wider c)) (fits c)
 
 pub weight-spec : {M : Type 1} → statement M
-weight-spec = tie.close (tie.spec (λ c. search needs) (λ c. search needs) sub-v cast-result (λ c. search needs))
+weight-spec = tie.close (tie.spec (λ c κs. search needs) (λ c κs. search needs) (λ c. search needs) sub-v cast-result (λ c. search needs))

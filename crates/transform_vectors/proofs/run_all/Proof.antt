@@ -1,14 +1,18 @@
--- `transform_vectors::run_all` ends, and its counts fit. Assumes nothing.
+-- `transform_vectors::run_all` is safe and ends: each turn leaves a record less. Assumes nothing.
+use Prim.Native.Nat.{_≤_}
 use borrow.Author.Needs.{needs}
-use Prim.Native.Nat.{_<_}
+use Rattle.tallies.proofs.Steps.{after-less}
 use Rattle.transform_vectors.proofs.run_all.Statement.{statement}
 use Rattle.transform_vectors.proofs.run_all.Tie as tie
 
 abbrev Inv-loop : tie.InvT-loop
-Inv-loop text left₀ next₀ right₀ cases₀ t8 left next right cases = (right < 1000000000) × (cases < 1000000000)
+Inv-loop bytes run₀ run = 0 ≤ run .left
 
 abbrev μ-loop : tie.MeasureT-loop
-μ-loop text left₀ next₀ right₀ cases₀ t8 left next right cases = left
+μ-loop bytes run₀ run = run .left
+
+loop-less : tie.Need-loop-less Inv-loop μ-loop
+loop-less c = after-less _ _ _ (c .after .ensures) (c .before .before .if1 .taken)
 
 pub run-all-spec : {M : Type 1} → statement M
 run-all-spec =
@@ -17,15 +21,9 @@ run-all-spec =
     Inv-loop
     μ-loop
     (λ c κs. search needs)
-    (λ c κs. search needs)
-    (λ c. search needs)
-    (λ c κs. search needs)
-    (λ c. search needs)
-    (λ c. search needs)
-    (λ c. search needs)
-    (λ c. search needs)
-    (λ c. search needs)
     (λ c. search needs)
     (λ c κs. search needs)
     (λ c κs. search needs)
+    loop-less
+    (λ c. search needs)
     (λ c. search needs))
