@@ -13,7 +13,7 @@ use Rattle.bits.proofs.Putting.{puts-none, puts-then, Going, going-start, going
 use Rattle.codes.specs.Table.{Table}
 use Rattle.codes.specs.Write.{placeOf, codeAt, word}
 use Rattle.planes.specs.Task.{ended}
-use Rattle.planes.specs.AcWrite.{Token, code, raw, class, emit, orElse, missing, spelled}
+use Rattle.planes.specs.AcWrite.{Token, code, raw, class, emit, orElse, lacking, spelled}
 use Rattle.ac_writer.specs.Telling.{firstOf, Told}
 use Rattle.ac_writer.specs.declared.Pen.{Pen}
 use Rattle.ac_writer.proofs.Classes.{run-bits}
@@ -30,12 +30,12 @@ else-first : (v : ℕ) (f a b : Found) → orElse v f (firstOf a b) ≡ firstOf 
 else-first v (At k) a b = refl
 else-first v Nothing a b = refl
 
-missing-append : (T : Table) (a b : List Token) → missing T (a ++ b) ≡ firstOf (missing T a) (missing T b)
-unfolding missing
+missing-append : (T : Table) (a b : List Token) → lacking T (a ++ b) ≡ firstOf (lacking T a) (lacking T b)
+unfolding lacking
 missing-append T [] b = refl
 missing-append T (raw x ∷ a) b = missing-append T a b
 missing-append T (code v ∷ a) b =
-    ap (orElse v (placeOf v (T .values))) (missing-append T a b) ∙ else-first v (placeOf v (T .values)) (missing T a) (missing T b)
+    ap (orElse v (placeOf v (T .values))) (missing-append T a b) ∙ else-first v (placeOf v (T .values)) (lacking T a) (lacking T b)
 
 first-assoc : (a b c : Found) → firstOf (firstOf a b) c ≡ firstOf a (firstOf b c)
 first-assoc (At v) b c = refl
@@ -51,8 +51,8 @@ unfolding spelled
 spelled-raw T [] = refl
 spelled-raw T (b ∷ bits) = ap (_∷_ b) (spelled-raw T bits)
 
-missing-raw : (T : Table) (bits : List Bool) → missing T (map raw bits) ≡ Nothing
-unfolding missing
+missing-raw : (T : Table) (bits : List Bool) → lacking T (map raw bits) ≡ Nothing
+unfolding lacking
 missing-raw T [] = refl
 missing-raw T (b ∷ bits) = missing-raw T bits
 
@@ -60,13 +60,13 @@ missing-raw T (b ∷ bits) = missing-raw T bits
 
 module _ {T : Table} where
   pub told-none : {before : List ℕ} {p : Pen} → Sound (p .putter) → Told T before before p p []
-  unfolding spelled missing
+  unfolding spelled lacking
   told-none {before} {p} s = record { put = puts-none s; lack = sym (first-none (p .lack)) }
 
   pub told-then : {a b c : List ℕ} {p q r : Pen} {xs ys : List Token} → Told T a b p q xs → Told T b c q r ys → Told T a c p r (xs ++ ys)
   told-then {p = p} {xs = xs} {ys = ys} f g = record {
     put = rw (spelled-append T xs ys) (puts-then (f .put) (g .put));
-    lack = g .lack ∙ ap (λ (x : Found). firstOf x (missing T ys)) (f .lack) ∙ first-assoc (p .lack) (missing T xs) (missing T ys) ∙ ap (firstOf (p .lack)) (sym (missing-append T xs ys));
+    lack = g .lack ∙ ap (λ (x : Found). firstOf x (lacking T ys)) (f .lack) ∙ first-assoc (p .lack) (lacking T xs) (lacking T ys) ∙ ap (firstOf (p .lack)) (sym (missing-append T xs ys));
   }
 
   -- bits alone
@@ -81,7 +81,7 @@ module _ (T : Table) {before after : List ℕ} {p r : Pen} (v : ℕ) where
   -- the table holds it
   pub told-held : {k : ℕ} → placeOf v (T .values) ≡ At k → Puts before after (p .putter) (r .putter) (codeAt (T .counts) 0 1 k) → r .lack ≡ p .lack
       → Told T before after p r (code v ∷ [])
-  unfolding spelled missing word
+  unfolding spelled lacking word
   told-held {k} e f q = record {
     put = rw (e, append-nil (codeAt (T .counts) 0 1 k)) f;
     lack = rw e (q ∙ sym (first-none (p .lack)));
@@ -90,7 +90,7 @@ module _ (T : Table) {before after : List ℕ} {p r : Pen} (v : ℕ) where
   -- or lacks it
   pub told-lacked : placeOf v (T .values) ≡ Nothing → Puts before after (p .putter) (r .putter) [] → r .lack ≡ firstOf (p .lack) (At v)
       → Told T before after p r (code v ∷ [])
-  unfolding spelled missing word
+  unfolding spelled lacking word
   told-lacked e f q = record { put = rw e f; lack = rw e q }
 
 -- ---- an end run: its code, then the bits
@@ -107,7 +107,7 @@ told-run {T} {a} {b} {c} {p} {q} {s} n r e f g h = subst (Told T a c p s) (run-t
 
 pub record Telling (T : Table) (before memory : List ℕ) (p q : Pen) (rest all : List Token) : Type 0 where
   pub going : Going before memory (p .putter) (q .putter) (spelled T rest) (spelled T all)
-  pub lack : firstOf (q .lack) (missing T rest) ≡ firstOf (p .lack) (missing T all)
+  pub lack : firstOf (q .lack) (lacking T rest) ≡ firstOf (p .lack) (lacking T all)
 
 module _ {T : Table} {before : List ℕ} {p : Pen} where
   pub telling-start : {all : List Token} → Sound (p .putter) → Telling T before before p p all all
@@ -117,9 +117,9 @@ module _ {T : Table} {before : List ℕ} {p : Pen} where
       → Told T memory after q r xs → Telling T before after p r rest all
   telling-turn {q = q} xs rest g f = record {
     going = going-turn (spelled T xs) (spelled T rest) (rw (spelled-append T xs rest) at (g .going)) (f .put);
-    lack = ap (λ (x : Found). firstOf x (missing T rest)) (f .lack) ∙ first-assoc (q .lack) (missing T xs) (missing T rest) ∙ ap (firstOf (q .lack)) (sym (missing-append T xs rest)) ∙ g .lack;
+    lack = ap (λ (x : Found). firstOf x (lacking T rest)) (f .lack) ∙ first-assoc (q .lack) (lacking T xs) (lacking T rest) ∙ ap (firstOf (q .lack)) (sym (missing-append T xs rest)) ∙ g .lack;
   }
 
   pub telling-end : {memory : List ℕ} {q : Pen} {all : List Token} → Telling T before memory p q [] all → Told T before memory p q all
-  unfolding spelled missing
+  unfolding spelled lacking
   telling-end {q = q} g = record { put = going-end (g .going); lack = sym (first-none (q .lack)) ∙ g .lack }

@@ -9,7 +9,7 @@ use Rattle.bits.specs.Code.{Sound, Puts}
 use Rattle.bits.proofs.Putting.{fresh}
 use Rattle.codes.specs.Table.{Table}
 use Rattle.planes.specs.Task.{Task}
-use Rattle.planes.specs.AcWrite.{Kind, Token, choose, tell, mark, after, missing, spelled}
+use Rattle.planes.specs.AcWrite.{Kind, Token, choose, tell, mark, after, lacking, spelled}
 use Rattle.ac_tasks.specs.Code.{taskOf, openOf}
 use Rattle.ac_writer.specs.declared.Pen.{Pen}
 use Rattle.ac_writer.specs.declared.State.{State}
@@ -32,7 +32,7 @@ pub record Ready (p : Pen) : Type 0 where
 -- the bits of these tokens were put, and the first code that the table lacks is kept
 pub record Told (T : Table) (before after : List ℕ) (p r : Pen) (tokens : List Token) : Type 0 where
   pub put : Puts before after (p .putter) (r .putter) (spelled T tokens)
-  pub lack : r .lack ≡ firstOf (p .lack) (missing T tokens)
+  pub lack : r .lack ≡ firstOf (p .lack) (lacking T tokens)
 
 -- the task at a position was chosen, and told if none was open
 pub record Begins (T : Table) (before after : List ℕ) (s : State) (r : Begun) (kinds : List Kind) (later : List (List Kind)) : Type 0 where

@@ -277,7 +277,7 @@ fn put_all(
 ) -> Outcome
     requires { ⌜ goodTable (table (now counts) (now codes)) ≡ true ⌝ }
     requires { ⌜ (length (now values) ≡ 63 * blocks) × (blocks ≤ 1024) ⌝ }
-    ensures { λ r. ⌜ Tried 0 (unless 19 (written.missing (table (now (counts .entry)) (now (codes .entry))) (written.tokens blocks (now (values .entry)))) (fitting (length (now (destination .entry))) (written.acBytes blocks (table (now (counts .entry)) (now (codes .entry))) (now (values .entry))))) (now (destination .entry)) (now (destination .exit)) r ⌝ }
+    ensures { λ r. ⌜ Tried 0 (unless 19 (written.lacking (table (now (counts .entry)) (now (codes .entry))) (written.tokens blocks (now (values .entry)))) (fitting (length (now (destination .entry))) (written.acBytes blocks (table (now (counts .entry)) (now (codes .entry))) (now (values .entry))))) (now (destination .entry)) (now (destination .exit)) r ⌝ }
 {
     let pen = put_blocks(destination, counts, codes, values, blocks);
     let lack = pen.lack;

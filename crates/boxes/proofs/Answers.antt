@@ -16,10 +16,10 @@ use Rattle.packets.specs.declared.Head.{Head}
 use Rattle.packets.specs.Walk.{walk, ending}
 use Rattle.packets.specs.Packets.{Packet, Met}
 use Rattle.packets.proofs.Walking.{mine-all}
-use Rattle.numbers.specs.Numbers.{numbers, numbersFrom, twice, missingFrom, missing}
+use Rattle.numbers.specs.Numbers.{numbers, numbersFrom, firstTwice, missingFrom, firstMissing}
 use Rattle.numbers.proofs.Smallest.{pigeonhole}
 use Rattle.boxes.specs.declared.Fault.the-variants.{Fine, Twice, Missing}
-use Rattle.boxes.specs.Box.{agree, contents, total, joined, assembled, assemble, boxOf}
+use Rattle.boxes.specs.Box.{agree, contents, total, joined, assembled, assemble, boxBytes}
 use Rattle.boxes.specs.Order.{payloads, inOrder}
 use Rattle.boxes.specs.Pass.{mineOf, faultBy, faultOf, Numbered, Whole, ReadyIs, putAt}
 use Rattle.boxes.specs.declared.Ready.{Ready}
@@ -30,41 +30,41 @@ use Rattle.boxes.proofs.Puts.{put-front}
 -- ---- what is wrong with the numbers
 
 module _ (ns : List ℕ) where
-  fault-fine : twice ns ≡ Nothing → missing ns ≡ Nothing → faultOf ns ≡ Fine
+  fault-fine : firstTwice ns ≡ Nothing → firstMissing ns ≡ Nothing → faultOf ns ≡ Fine
   unfolding faultOf
   fault-fine t m = rw (t, m)
 
-  fault-twice : {q : ℕ} → twice ns ≡ At q → faultOf ns ≡ Twice q
+  fault-twice : {q : ℕ} → firstTwice ns ≡ At q → faultOf ns ≡ Twice q
   unfolding faultOf
   fault-twice t = rw t
 
-  fault-missing : {q : ℕ} → twice ns ≡ Nothing → missing ns ≡ At q → faultOf ns ≡ Missing q
+  fault-missing : {q : ℕ} → firstTwice ns ≡ Nothing → firstMissing ns ≡ At q → faultOf ns ≡ Missing q
   unfolding faultOf
   fault-missing t m = rw (t, m)
 
-  pub told-fine : faultOf ns ≡ Fine → (twice ns ≡ Nothing) × (missing ns ≡ Nothing)
+  pub told-fine : faultOf ns ≡ Fine → (firstTwice ns ≡ Nothing) × (firstMissing ns ≡ Nothing)
   unfolding faultOf
-  told-fine e = go (twice ns) refl (missing ns) refl e
+  told-fine e = go (firstTwice ns) refl (firstMissing ns) refl e
     where
-      go : (t : Found) → twice ns ≡ t → (m : Found) → missing ns ≡ m → faultBy t m ≡ Fine → (twice ns ≡ Nothing) × (missing ns ≡ Nothing)
+      go : (t : Found) → firstTwice ns ≡ t → (m : Found) → firstMissing ns ≡ m → faultBy t m ≡ Fine → (firstTwice ns ≡ Nothing) × (firstMissing ns ≡ Nothing)
       go (At q) f m g h = let z : _≡_ {A = ℕ} 0 1 = cc in absurd (omega arith)
       go Nothing f (At q) g h = let z : _≡_ {A = ℕ} 0 1 = cc in absurd (omega arith)
       go Nothing f Nothing g h = (f, g)
 
-  told-twice : {q : ℕ} → faultOf ns ≡ Twice q → twice ns ≡ At q
+  told-twice : {q : ℕ} → faultOf ns ≡ Twice q → firstTwice ns ≡ At q
   unfolding faultOf
-  told-twice {q} e = go (twice ns) refl (missing ns) e
+  told-twice {q} e = go (firstTwice ns) refl (firstMissing ns) e
     where
-      go : (t : Found) → twice ns ≡ t → (m : Found) → faultBy t m ≡ Twice q → twice ns ≡ At q
+      go : (t : Found) → firstTwice ns ≡ t → (m : Found) → faultBy t m ≡ Twice q → firstTwice ns ≡ At q
       go (At p) f m h = let z : p ≡ q = cc in rw (← z) f
       go Nothing f (At p) h = let z : _≡_ {A = ℕ} 0 1 = cc in absurd (omega arith)
       go Nothing f Nothing h = let z : _≡_ {A = ℕ} 0 1 = cc in absurd (omega arith)
 
-  told-missing : {q : ℕ} → faultOf ns ≡ Missing q → (twice ns ≡ Nothing) × (missing ns ≡ At q)
+  told-missing : {q : ℕ} → faultOf ns ≡ Missing q → (firstTwice ns ≡ Nothing) × (firstMissing ns ≡ At q)
   unfolding faultOf
-  told-missing {q} e = go (twice ns) refl (missing ns) refl e
+  told-missing {q} e = go (firstTwice ns) refl (firstMissing ns) refl e
     where
-      go : (t : Found) → twice ns ≡ t → (m : Found) → missing ns ≡ m → faultBy t m ≡ Missing q → (twice ns ≡ Nothing) × (missing ns ≡ At q)
+      go : (t : Found) → firstTwice ns ≡ t → (m : Found) → firstMissing ns ≡ m → faultBy t m ≡ Missing q → (firstTwice ns ≡ Nothing) × (firstMissing ns ≡ At q)
       go (At p) f m g h = let z : _≡_ {A = ℕ} 0 1 = cc in absurd (omega arith)
       go Nothing f (At p) g h = let z : p ≡ q = cc in (f, rw (← z) g)
       go Nothing f Nothing g h = let z : _≡_ {A = ℕ} 0 1 = cc in absurd (omega arith)
@@ -74,11 +74,11 @@ module _ (file : List ℕ) (kind instance : ℕ) where
   pub ordered-fine : inOrder 1 (numbers (mineOf file kind instance)) ≡ true → Fine ≡ faultOf (numbers (mineOf file kind instance))
   ordered-fine h = sym (fault-fine _ (order-twice (mineOf file kind instance) h) (order-missing (mineOf file kind instance) h))
 
-  missing-of : (n : ℕ) → n ≡ length (mineOf file kind instance) → missingFrom n 1 (numbersFrom file kind instance 2) ≡ missing (numbers (mineOf file kind instance))
-  unfolding missing numbersFrom
+  missing-of : (n : ℕ) → n ≡ length (mineOf file kind instance) → missingFrom n 1 (numbersFrom file kind instance 2) ≡ firstMissing (numbers (mineOf file kind instance))
+  unfolding firstMissing numbersFrom
   missing-of n e = rw (e, numbers-length (mineOf file kind instance))
 
-  twice-of : twice (numbersFrom file kind instance 2) ≡ twice (numbers (mineOf file kind instance))
+  twice-of : firstTwice (numbersFrom file kind instance 2) ≡ firstTwice (numbers (mineOf file kind instance))
   unfolding numbersFrom
   twice-of = refl
 
@@ -86,14 +86,14 @@ module _ (file : List ℕ) (kind instance : ℕ) where
   pub searched-fine : {n : ℕ} {m : Found} → n ≡ length (mineOf file kind instance) → m ≡ missingFrom n 1 (numbersFrom file kind instance 2) → m ≡ Nothing
       → Fine ≡ faultOf (numbers (mineOf file kind instance))
   searched-fine {n} e f g =
-      let z : missing (numbers (mineOf file kind instance)) ≡ Nothing = sym (missing-of n e) ∙ sym f ∙ g in
+      let z : firstMissing (numbers (mineOf file kind instance)) ≡ Nothing = sym (missing-of n e) ∙ sym f ∙ g in
       sym (fault-fine _ (pigeonhole (numbers (mineOf file kind instance)) z) z)
 
-  pub searched-twice : {t : Found} {q : ℕ} → t ≡ twice (numbersFrom file kind instance 2) → t ≡ At q → Twice q ≡ faultOf (numbers (mineOf file kind instance))
+  pub searched-twice : {t : Found} {q : ℕ} → t ≡ firstTwice (numbersFrom file kind instance 2) → t ≡ At q → Twice q ≡ faultOf (numbers (mineOf file kind instance))
   searched-twice f g = sym (fault-twice _ (sym twice-of ∙ sym f ∙ g))
 
   pub searched-missing : {n : ℕ} {m t : Found} {q : ℕ} → n ≡ length (mineOf file kind instance) → m ≡ missingFrom n 1 (numbersFrom file kind instance 2) → m ≡ At q
-      → t ≡ twice (numbersFrom file kind instance 2) → t ≡ Nothing → Missing q ≡ faultOf (numbers (mineOf file kind instance))
+      → t ≡ firstTwice (numbersFrom file kind instance 2) → t ≡ Nothing → Missing q ≡ faultOf (numbers (mineOf file kind instance))
   searched-missing {n} e f g h i = sym (fault-missing _ (sym twice-of ∙ sym h ∙ i) (sym (missing-of n e) ∙ sym f ∙ g))
 
 -- ---- the verdict for a list of packets
@@ -134,20 +134,20 @@ module _ (room : ℕ) (h : Head) (ps : List Packet) where
 -- ---- the verdict for a file
 
 module _ (file : List ℕ) (kind instance room : ℕ) where
-  pub file-refused : {r : Refusal} → ending (walk file) ≡ Refused r → boxOf file kind instance room ≡ refused r
-  unfolding boxOf
+  pub file-refused : {r : Refusal} → ending (walk file) ≡ Refused r → boxBytes file kind instance room ≡ refused r
+  unfolding boxBytes
   file-refused e = rw e
 
-  file-packets : {count : ℕ} → ending (walk file) ≡ Given count → boxOf file kind instance room ≡ assemble room (mineOf file kind instance)
-  unfolding boxOf
+  file-packets : {count : ℕ} → ending (walk file) ≡ Given count → boxBytes file kind instance room ≡ assemble room (mineOf file kind instance)
+  unfolding boxBytes
   file-packets e = rw e (ap (assemble room) (mine-all file kind instance _ e))
 
-  pub file-none : {count : ℕ} → ending (walk file) ≡ Given count → mineOf file kind instance ≡ [] → boxOf file kind instance room ≡ refused (refusal 4 0)
+  pub file-none : {count : ℕ} → ending (walk file) ≡ Given count → mineOf file kind instance ≡ [] → boxBytes file kind instance room ≡ refused (refusal 4 0)
   unfolding assemble
   file-none e n = file-packets e ∙ rw n
 
   pub file-some : {count : ℕ} → ending (walk file) ≡ Given count → {head : Head} {start len next : ℕ} → Met file kind instance 2 head start len next
-      → boxOf file kind instance room ≡ assembled room head (mineOf file kind instance)
+      → boxBytes file kind instance room ≡ assembled room head (mineOf file kind instance)
   unfolding assemble
   file-some e m = file-packets e ∙ rw (m .list)
 

@@ -5,8 +5,8 @@ use mathlib.Core.List.{List, [], _∷_, _++_}
 use Rattle.answers.specs.Verdict.{given, refused, refusal}
 use Rattle.packets.specs.Walk.{be16, be32, headAt, ones, barred, tagged, packetAt, wholeAt, sizedAt, markedAt, stepAt, stepsIn, stepsFrom, begins, walk, ending}
 use Rattle.packets.specs.Packets.{packetsIn, packets, isMine, mine}
-use Rattle.numbers.specs.Numbers.{numbers, count, least, twice, missingFrom, missing}
-use Rattle.boxes.specs.Box.{alike, agree, contents, total, numbered, joinedFrom, joined, assembled, assemble, boxOf}
+use Rattle.numbers.specs.Numbers.{numbers, count, least, firstTwice, missingFrom, firstMissing}
+use Rattle.boxes.specs.Box.{alike, agree, contents, total, numbered, joinedFrom, joined, assembled, assemble, boxBytes}
 
 -- a packet of LPTS, 1 with the number q
 pub packet : ℕ → List ℕ
@@ -22,7 +22,7 @@ unfolding packet
 two q = 0xFF ∷ 0xD8 ∷ packet 1 ++ packet q ++ (0xFF ∷ 0xDA ∷ [])
 
 -- "LPTS, 1 gives AA BB CC. LPTS, 2 gives 4." "both numbered 1: 6, place 1. Numbered 1 and 3: 7, place 2."
-pub cases : (boxOf one 0x4C505453 1 3 ∷ boxOf one 0x4C505453 2 3 ∷ boxOf (two 1) 0x4C505453 1 3 ∷ boxOf (two 3) 0x4C505453 1 3 ∷ [])
+pub cases : (boxBytes one 0x4C505453 1 3 ∷ boxBytes one 0x4C505453 2 3 ∷ boxBytes (two 1) 0x4C505453 1 3 ∷ boxBytes (two 3) 0x4C505453 1 3 ∷ [])
     ≡ (given (0xAA ∷ 0xBB ∷ 0xCC ∷ []) ∷ refused (refusal 4 0) ∷ refused (refusal 6 1) ∷ refused (refusal 7 2) ∷ [])
-unfolding one two be16 be32 headAt ones barred tagged packetAt wholeAt sizedAt markedAt stepAt stepsIn stepsFrom begins walk ending packetsIn packets isMine mine numbers count least twice missingFrom missing alike agree contents total numbered joinedFrom joined assembled assemble boxOf
+unfolding one two be16 be32 headAt ones barred tagged packetAt wholeAt sizedAt markedAt stepAt stepsIn stepsFrom begins walk ending packetsIn packets isMine mine numbers count least firstTwice missingFrom firstMissing alike agree contents total numbered joinedFrom joined assembled assemble boxBytes
 cases = refl

@@ -19,10 +19,10 @@ use Rattle.packets.specs.declared.Head.{Head}
 use Rattle.packets.specs.Walk.{walk, ending}
 use Rattle.packets.specs.Packets.{Packet, packets, mine}
 use Rattle.packets.proofs.Walking.{ended}
-use Rattle.numbers.specs.Numbers.{numbers, count, twice, missing}
+use Rattle.numbers.specs.Numbers.{numbers, count, firstTwice, firstMissing}
 use Rattle.numbers.proofs.Counts.{numbers-append, count-grows}
 use Rattle.numbers.proofs.Smallest.{never-twice, twice-none, never-missing, missing-none}
-use Rattle.boxes.specs.Box.{alike, agree, contents, total, numbered, joinedFrom, joined, assembled, assemble, afterWalk, boxOf}
+use Rattle.boxes.specs.Box.{alike, agree, contents, total, numbered, joinedFrom, joined, assembled, assemble, afterWalk, boxBytes}
 use Rattle.boxes.specs.Order.{Reordered, none, keep, swap, both, counting, payloads, Makes, HandedOut, inOrder}
 
 -- ---- what an ordering keeps
@@ -161,11 +161,11 @@ module _ (ps l : List Packet) (h : Reordered ps l) (e : numbers l ≡ counting 1
   reads-once : (q : ℕ) → count q (numbers ps) ≤ 1
   reads-once q = rw (reads-count q) (once 1 (length ps) q)
 
-  pub reads-twice : twice (numbers ps) ≡ Nothing
+  pub reads-twice : firstTwice (numbers ps) ≡ Nothing
   reads-twice = twice-none (numbers ps) reads-once
 
-  pub reads-missing : missing (numbers ps) ≡ Nothing
-  unfolding missing
+  pub reads-missing : firstMissing (numbers ps) ≡ Nothing
+  unfolding firstMissing
   reads-missing = rw (numbers-length ps) (missing-none (numbers ps) (length ps) 1 (λ j u v. rw (reads-count j) (there 1 (length ps) j u v)))
 
   pub reads-joined : joined ps ≡ payloads l
@@ -270,16 +270,16 @@ sorts-all ps h =
     let y : left n 1 ps ≡ [] = empty (left n 1 ps) (omega (arith, same-length s, length-append (sorted n 1 ps) (left n 1 ps))) in
     (rw append-nil at (rw y at s), r)
 
-pub each-once : (ps : List Packet) → twice (numbers ps) ≡ Nothing → missing (numbers ps) ≡ Nothing → (j : ℕ) → 1 ≤ j → j < 1 + length ps → count j (numbers ps) ≡ 1
-unfolding missing
+pub each-once : (ps : List Packet) → firstTwice (numbers ps) ≡ Nothing → firstMissing (numbers ps) ≡ Nothing → (j : ℕ) → 1 ≤ j → j < 1 + length ps → count j (numbers ps) ≡ 1
+unfolding firstMissing
 each-once ps t m j u v =
     omega (arith, never-twice (numbers ps) t j, never-missing (numbers ps) (length (numbers ps)) 1 m j u (omega (arith, numbers-length ps)))
 
-pub sorted-makes : (ps : List Packet) → twice (numbers ps) ≡ Nothing → missing (numbers ps) ≡ Nothing
+pub sorted-makes : (ps : List Packet) → firstTwice (numbers ps) ≡ Nothing → firstMissing (numbers ps) ≡ Nothing
     → Reordered ps (sorted (length ps) 1 ps) × (numbers (sorted (length ps) 1 ps) ≡ counting 1 (length ps))
 sorted-makes ps t m = sorts-all ps (each-once ps t m)
 
-pub fine-total : (ps : List Packet) → twice (numbers ps) ≡ Nothing → missing (numbers ps) ≡ Nothing → length (joined ps) ≡ total ps
+pub fine-total : (ps : List Packet) → firstTwice (numbers ps) ≡ Nothing → firstMissing (numbers ps) ≡ Nothing → length (joined ps) ≡ total ps
 fine-total ps t m = let s = sorted-makes ps t m in reads-total ps (sorted (length ps) 1 ps) (s .0) (s .1)
 
 -- ---- packets in file order
@@ -295,10 +295,10 @@ module _ (ps : List Packet) (h : inOrder 1 (numbers ps) ≡ true) where
   in-order : numbers ps ≡ counting 1 (length ps)
   in-order = order-reads (numbers ps) 1 h ∙ ap (counting 1) (numbers-length ps)
 
-  pub order-twice : twice (numbers ps) ≡ Nothing
+  pub order-twice : firstTwice (numbers ps) ≡ Nothing
   order-twice = reads-twice ps ps (self ps) in-order
 
-  pub order-missing : missing (numbers ps) ≡ Nothing
+  pub order-missing : firstMissing (numbers ps) ≡ Nothing
   order-missing = reads-missing ps ps (self ps) in-order
 
   pub order-joined : joined ps ≡ payloads ps
@@ -360,8 +360,8 @@ makes-given p r l h room f k =
 -- the tests that were passed, from the bytes
 record Passed (room : ℕ) (h : Head) (ps : List Packet) (b : List ℕ) : Type 0 where
   same : agree h ps ≡ true
-  single : twice (numbers ps) ≡ Nothing
-  whole : missing (numbers ps) ≡ Nothing
+  single : firstTwice (numbers ps) ≡ Nothing
+  whole : firstMissing (numbers ps) ≡ Nothing
   sum : total ps ≡ contents h
   out : b ≡ joined ps
   within : length b ≤ room
@@ -381,8 +381,8 @@ passed : (room : ℕ) (h : Head) (ps : List Packet) (b : List ℕ) → assembled
 unfolding assembled
 passed room h ps b e =
     let a = need-given (agree h ps) 5 0 _ e in
-    let t = unless-given 6 (twice (numbers ps)) _ (a .1) in
-    let m = unless-given 7 (missing (numbers ps)) _ (t .1) in
+    let t = unless-given 6 (firstTwice (numbers ps)) _ (a .1) in
+    let m = unless-given 7 (firstMissing (numbers ps)) _ (t .1) in
     let s = need-given (eqb (total ps) (contents h)) 8 (total ps) _ (m .1) in
     let f = need-given (leb (length (joined ps)) room) 9 (length (joined ps)) _ (s .1) in
     let o : b ≡ joined ps = cc in
@@ -411,8 +411,8 @@ given-makes p r room b e =
 -- ---- the law, for a call
 
 -- where 01's sentence hands out bytes, the call does
-pub handed-given : (file : List ℕ) (kind instance room : ℕ) (b : List ℕ) → HandedOut file kind instance room b → boxOf file kind instance room ≡ given b
-unfolding boxOf
+pub handed-given : (file : List ℕ) (kind instance room : ℕ) (b : List ℕ) → HandedOut file kind instance room b → boxBytes file kind instance room ≡ given b
+unfolding boxBytes
 handed-given file kind instance room b h = rw (h .well) (go (mine kind instance (packets file)) (h .some) (h .makes))
   where
     go : (ps : List Packet) → 0 < length ps → Makes ps (h .order) (h .stated) → assemble room ps ≡ given b
@@ -421,8 +421,8 @@ handed-given file kind instance room b h = rw (h .well) (go (mine kind instance 
         makes-given p r (h .order) (h .stated) room m (subst (λ (x : List ℕ). length x ≤ room) (h .bytes) (h .fits)) ∙ ap given (sym (h .bytes))
 
 -- where the call hands out bytes, 01's sentence does
-pub given-handed : (file : List ℕ) (kind instance room : ℕ) (b : List ℕ) → boxOf file kind instance room ≡ given b → HandedOut file kind instance room b
-unfolding boxOf assemble
+pub given-handed : (file : List ℕ) (kind instance room : ℕ) (b : List ℕ) → boxBytes file kind instance room ≡ given b → HandedOut file kind instance room b
+unfolding boxBytes assemble
 given-handed file kind instance room b e = go (ending (walk file)) refl e (mine kind instance (packets file)) refl
   where
     make : ending (walk file) ≡ Given 0 → (ps : List Packet) → mine kind instance (packets file) ≡ ps → assemble room ps ≡ given b → HandedOut file kind instance room b

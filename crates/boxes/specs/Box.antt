@@ -10,7 +10,7 @@ use Rattle.answers.specs.declared.Outcome.the-variants.{Given, Refused}
 use Rattle.packets.specs.declared.Head.{Head}
 use Rattle.packets.specs.Walk.{walk, ending}
 use Rattle.packets.specs.Packets.{Packet, packets, mine}
-use Rattle.numbers.specs.Numbers.{numbers, twice, missing}
+use Rattle.numbers.specs.Numbers.{numbers, firstTwice, firstMissing}
 
 -- two heads state one length of the box
 unfoldable pub alike : Head → Head → Bool
@@ -47,8 +47,8 @@ joined ps = joinedFrom (length ps) 1 ps
 unfoldable pub assembled : ℕ → Head → List Packet → Verdict ℕ
 assembled room h ps =
     need (agree h ps) 5 0
-    (unless 6 (twice (numbers ps))
-    (unless 7 (missing (numbers ps))
+    (unless 6 (firstTwice (numbers ps))
+    (unless 7 (firstMissing (numbers ps))
     (need (eqb (total ps) (contents h)) 8 (total ps)
     (fitting room (joined ps)))))
 
@@ -63,5 +63,5 @@ afterWalk (Given count) next = next
 afterWalk (Refused r) next = refused r
 
 -- the answer to a call, for every file, type, instance and length of the destination
-unfoldable pub boxOf : List ℕ → ℕ → ℕ → ℕ → Verdict ℕ
-boxOf file kind instance room = afterWalk (ending (walk file)) (assemble room (mine kind instance (packets file)))
+unfoldable pub boxBytes : List ℕ → ℕ → ℕ → ℕ → Verdict ℕ
+boxBytes file kind instance room = afterWalk (ending (walk file)) (assemble room (mine kind instance (packets file)))

@@ -9,7 +9,7 @@ use Rattle.laws.specs.declared.Found.the-variants.{At, Nothing}
 use Rattle.answers.specs.Verdict.{Verdict, given, refused}
 use Rattle.packets.specs.declared.Head.{Head}
 use Rattle.packets.specs.Packets.{Packet, mineFrom}
-use Rattle.numbers.specs.Numbers.{numbers, twice, missing}
+use Rattle.numbers.specs.Numbers.{numbers, firstTwice, firstMissing}
 use Rattle.boxes.specs.declared.Scan.{Scan}
 use Rattle.boxes.specs.declared.Ready.{Ready}
 use Rattle.boxes.specs.declared.Ready.the-variants.{Not, Yes}
@@ -36,7 +36,7 @@ faultBy Nothing (At q) = Missing q
 faultBy Nothing Nothing = Fine
 
 unfoldable pub faultOf : List ℕ → Fault
-faultOf ns = faultBy (twice ns) (missing ns)
+faultOf ns = faultBy (firstTwice ns) (firstMissing ns)
 
 -- d with the bytes b at position at
 unfoldable pub putAt : List ℕ → ℕ → List ℕ → List ℕ

@@ -12,7 +12,7 @@ ghost use lib.ListN.{length, take, drop};
 ghost use lib.Dec.{eqb};
 ghost use Rattle.answers.specs.Verdict.{Meets, Tried, refusal};
 ghost use Rattle.numbers.specs.Numbers.{numbers};
-ghost use Rattle.boxes.specs.Box.{assembled, joinedFrom, joined, boxOf};
+ghost use Rattle.boxes.specs.Box.{assembled, joinedFrom, joined, boxBytes};
 ghost use Rattle.boxes.specs.Box.{alike as Box·alike, contents as Box·contents};
 ghost use Rattle.boxes.specs.Order.{inOrder, payloads};
 ghost use Rattle.boxes.specs.Pass.{mineOf, Scanned, faultOf, putAt, Numbered, Windowed, ReadyIs};
@@ -162,7 +162,7 @@ fn checked(file: &[u8], kind: u32, instance: u16, h: Head, room: usize) -> Ready
 
 // Whether a file has the box of a type and instance, and it fits into so many bytes.
 fn judged(file: &[u8], kind: u32, instance: u16, room: usize) -> Ready
-    ensures { λ r. ⌜ ReadyIs (mineOf (now (file .entry)) kind instance) room (boxOf (now (file .entry)) kind instance room) r ⌝ }
+    ensures { λ r. ⌜ ReadyIs (mineOf (now (file .entry)) kind instance) room (boxBytes (now (file .entry)) kind instance room) r ⌝ }
 {
     match packets::walk_all(file) {
         Outcome::Refused(r) => Ready::Not(r),
@@ -285,7 +285,7 @@ fn put_by_number(file: &[u8], kind: u32, instance: u16, n: usize, destination: &
 }
 
 fn try_box(file: &[u8], kind: u32, instance: u16, destination: &mut [u8]) -> Outcome
-    ensures { λ r. ⌜ Tried 0 (boxOf (now (file .entry)) kind instance (length (now (destination .entry)))) (now (destination .entry)) (now (destination .exit)) r ⌝ }
+    ensures { λ r. ⌜ Tried 0 (boxBytes (now (file .entry)) kind instance (length (now (destination .entry)))) (now (destination .entry)) (now (destination .exit)) r ⌝ }
 {
     match judged(file, kind, instance, destination.len()) {
         Ready::Not(r) => Outcome::Refused(r),
@@ -302,7 +302,7 @@ fn try_box(file: &[u8], kind: u32, instance: u16, destination: &mut [u8]) -> Out
 
 // The bytes of the box of a type and instance.
 pub fn box_bytes(file: &[u8], kind: u32, instance: u16, destination: &mut [u8]) -> Answer
-    ensures { λ r. ⌜ Meets 0 (boxOf (now (file .entry)) kind instance (length (now (destination .entry)))) (now (destination .entry)) (now (destination .exit)) r ⌝ }
+    ensures { λ r. ⌜ Meets 0 (boxBytes (now (file .entry)) kind instance (length (now (destination .entry)))) (now (destination .entry)) (now (destination .exit)) r ⌝ }
 {
     let o = try_box(file, kind, instance, destination);
     match o {

@@ -12,9 +12,9 @@ use Rattle.planes.specs.Dc.{newDc, dcBlocks, readDc}
 use Rattle.planes.specs.AcRead.{takeNumber, endRun, meaning, taskAt, position, blockEnd, acBlock, cut, acBlocks, readAc}
 use Rattle.packets.specs.Walk.{be16, be32, headAt, ones, barred, tagged, packetAt, wholeAt, sizedAt, markedAt, stepAt, stepsIn, stepsFrom, begins, walk, ending}
 use Rattle.packets.specs.Packets.{packetsIn, packets, isMine, mine}
-use Rattle.numbers.specs.Numbers.{numbers, count, least, twice, missingFrom, missing}
+use Rattle.numbers.specs.Numbers.{numbers, count, least, firstTwice, missingFrom, firstMissing}
 use Rattle.boxes.specs.Box as boxes
-use Rattle.boxes.specs.Box.{alike, agree, contents, numbered, joinedFrom, assembled, assemble, boxOf}
+use Rattle.boxes.specs.Box.{alike, agree, contents, numbered, joinedFrom, assembled, assemble, boxBytes}
 use Rattle.kernel.specs.Cosines.{nineCosines, halfTurn, fullTurn, kernel}
 use Rattle.kernel.specs.Samples.{product, rowSum, doubleSum, rounded, sample, blockSamples}
 use Rattle.transform.specs.Zigzag.{firstRow, lastRow, placesBefore, zigzag, zigzagAt}
@@ -34,7 +34,7 @@ unfolding resultOf sumTo tab joinTo every firstFail orHere inLevel isDc inside f
     total kraft holds distinct goodTable codeFrom takeCode onto closed newDc dcBlocks readDc
     takeNumber endRun meaning taskAt position blockEnd acBlock cut acBlocks readAc
     be16 be32 headAt ones barred tagged packetAt wholeAt sizedAt markedAt stepAt stepsIn stepsFrom begins walk ending packetsIn packets isMine mine
-    numbers count least twice missingFrom missing alike agree contents boxes.total numbered joinedFrom boxes.joined assembled assemble boxOf
+    numbers count least firstTwice missingFrom firstMissing alike agree contents boxes.total numbered joinedFrom boxes.joined assembled assemble boxBytes
     nineCosines halfTurn fullTurn kernel product rowSum doubleSum rounded sample blockSamples firstRow lastRow placesBefore zigzag zigzagAt
     blocks.scaled dequantised centre blocks.picture isQuantiser firstBadQuantiser inverseTransform
     nearest clip row straight curved entries each both component tinted tints transform recolour firstCentre stepOne stepTwo matrixed stepThree scaled

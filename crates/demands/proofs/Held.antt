@@ -18,7 +18,7 @@ use Rattle.bits.specs.Digits.{digits}
 use Rattle.codes.specs.Table.{Table, table, total, kraft, holds, distinct, goodTable}
 use Rattle.codes.specs.Write.{placeOf}
 use Rattle.planes.specs.Task.{Task, walk, ended}
-use Rattle.planes.specs.AcWrite.{Kind, keep, still, fresh, ahead, quiet, planned, plan, Token, code, raw, class, emit, choose, tell, mark, after, writeBlock, writeBlocks, tokens, orElse, missing}
+use Rattle.planes.specs.AcWrite.{Kind, keep, still, fresh, ahead, quiet, planned, plan, Token, code, raw, class, emit, choose, tell, mark, after, writeBlock, writeBlocks, tokens, orElse, lacking}
 use Rattle.planes.proofs.AcTokens.{order-most}
 
 abbrev pub everyCode : Table
@@ -48,16 +48,16 @@ held-rest : (n : ℕ) → n < 16 → T (held (16 * n))
 unfolding held there placeOf firstFail orHere
 held-rest n h = each 16 (λ (m : ℕ). held (16 * m)) tt n h
 
-missing-code : (v : ℕ) (rest : List Token) → T (held v) → missing everyCode (code v ∷ rest) ≡ missing everyCode rest
-unfolding missing held there
+missing-code : (v : ℕ) (rest : List Token) → T (held v) → lacking everyCode (code v ∷ rest) ≡ lacking everyCode rest
+unfolding lacking held there
 missing-code v rest h = go (placeOf v (everyCode .values)) h
   where
-    go : (f : Found) → T (there f) → orElse v f (missing everyCode rest) ≡ missing everyCode rest
+    go : (f : Found) → T (there f) → orElse v f (lacking everyCode rest) ≡ lacking everyCode rest
     go Nothing h = absurd h
     go (At k) h = refl
 
-missing-raw : (bits : List Bool) (rest : List Token) → missing everyCode (map raw bits ++ rest) ≡ missing everyCode rest
-unfolding missing
+missing-raw : (bits : List Bool) (rest : List Token) → lacking everyCode (map raw bits ++ rest) ≡ lacking everyCode rest
+unfolding lacking
 missing-raw [] rest = refl
 missing-raw (b ∷ bits) rest = missing-raw bits rest
 
@@ -79,25 +79,25 @@ plan-low kinds later = go (ahead kinds)
     go none = tt
     go (some p) = near p (ltb (p .0) 16) refl
 
-emit-held : (t : Task) (rest : List Token) → Low t → missing everyCode (emit t ++ rest) ≡ missing everyCode rest
-unfolding emit missing
+emit-held : (t : Task) (rest : List Token) → Low t → lacking everyCode (emit t ++ rest) ≡ lacking everyCode rest
+unfolding emit lacking
 emit-held (walk n none) rest h = missing-code (16 * n) rest (held-rest n h)
 emit-held (walk n (some b)) rest h = missing-code (16 * n + 1) (raw b ∷ rest) (held-new n h)
 emit-held (ended n) rest h =
     let r : ℕ = class (suc n) in
     missing-code (16 * r) (map raw (digits r (suc n - 2 ^ r)) ++ rest) (held-rest r (omega (arith, order-most 14 (suc n)))) ∙ missing-raw (digits r (suc n - 2 ^ r)) rest
 
-mark-held : (x : Kind) (rest : List Token) → missing everyCode (mark x ++ rest) ≡ missing everyCode rest
-unfolding missing
+mark-held : (x : Kind) (rest : List Token) → lacking everyCode (mark x ++ rest) ≡ lacking everyCode rest
+unfolding lacking
 mark-held (keep b) rest = refl
 mark-held still rest = refl
 mark-held (fresh b) rest = refl
 
-tell-held : (o : Option Task) (kinds : List Kind) (later : List (List Kind)) (rest : List Token) → missing everyCode (tell o (choose o kinds later) ++ rest) ≡ missing everyCode rest
+tell-held : (o : Option Task) (kinds : List Kind) (later : List (List Kind)) (rest : List Token) → lacking everyCode (tell o (choose o kinds later) ++ rest) ≡ lacking everyCode rest
 tell-held none kinds later rest = emit-held (plan kinds later) rest (plan-low kinds later)
 tell-held (some t) kinds later rest = refl
 
-block-held : (o : Option Task) (kinds : List Kind) (later : List (List Kind)) (rest : List Token) → missing everyCode (writeBlock o kinds later .0 ++ rest) ≡ missing everyCode rest
+block-held : (o : Option Task) (kinds : List Kind) (later : List (List Kind)) (rest : List Token) → lacking everyCode (writeBlock o kinds later .0 ++ rest) ≡ lacking everyCode rest
 unfolding writeBlock
 block-held o [] later rest = refl
 block-held o (x ∷ kinds) later rest =
@@ -105,12 +105,12 @@ block-held o (x ∷ kinds) later rest =
     let r : List Token = writeBlock (after t x) kinds later .0 in
     simp append-assoc (tell-held o (x ∷ kinds) later (mark x ++ (r ++ rest)) ∙ mark-held x (r ++ rest) ∙ block-held (after t x) kinds later rest)
 
-blocks-held : (o : Option Task) (bs : List (List Kind)) → missing everyCode (writeBlocks o bs) ≡ Nothing
-unfolding writeBlocks missing
+blocks-held : (o : Option Task) (bs : List (List Kind)) → lacking everyCode (writeBlocks o bs) ≡ Nothing
+unfolding writeBlocks lacking
 blocks-held o [] = refl
 blocks-held o (b ∷ bs) = block-held o b bs (writeBlocks (writeBlock o b bs .1) bs) ∙ blocks-held (writeBlock o b bs .1) bs
 
 -- no plane needs a code that it lacks
-pub every-held : (n : ℕ) (values : List ℤ) → missing everyCode (tokens n values) ≡ Nothing
+pub every-held : (n : ℕ) (values : List ℤ) → lacking everyCode (tokens n values) ≡ Nothing
 unfolding tokens
 every-held n values = blocks-held none _

@@ -9,7 +9,7 @@ use borrow.Author.Tests.{eqb-true, leb-true, leb-false}
 use lib.Dec.{T, eqb, leb}
 use lib.IntN.{ℤ, pos}
 use lib.ListN.{length, getD}
-use Rattle.listing_text.specs.Text.{listing, listed}
+use Rattle.listing_text.specs.Text.{listing, listPackets}
 use Rattle.laws.specs.Index.{every}
 use Rattle.laws.specs.First.{firstFail}
 use Rattle.laws.specs.declared.Found.{Found}
@@ -23,7 +23,7 @@ use Rattle.codes.specs.Write.{placeOf}
 use Rattle.planes.specs.Plane.{readable, writable}
 use Rattle.planes.specs.Dc.{dcBlocks, readDc, dcBytes, writeDc}
 use Rattle.planes.specs.AcRead.{cut, acBlocks, readAc}
-use Rattle.planes.specs.AcWrite.{Token, code, raw, tokens, orElse, missing, acBytes, writeAc}
+use Rattle.planes.specs.AcWrite.{Token, code, raw, tokens, orElse, lacking, acBytes, writeAc}
 use Rattle.transform.specs.Picture.{picture}
 use Rattle.transform.specs.Call.{isQuantiser, firstBadQuantiser, inverseTransform}
 use Rattle.transform.proofs.Lengths.{picture-length}
@@ -79,8 +79,8 @@ ac-read-keeps plane blocks codes values bytes room =
 
 -- ---- the listing
 
-pub list-keeps : (file : List ℕ) (room : ℕ) → Keeps (listRows file room) room (listed file room)
-unfolding listed listRows
+pub list-keeps : (file : List ℕ) (room : ℕ) → Keeps (listRows file room) room (listPackets file room)
+unfolding listPackets listRows
 list-keeps file room = fitting-keeps (listing file) (λ h. (tt, (refl, h)))
 
 -- ---- writing planes
@@ -97,11 +97,11 @@ lacked-here : (codes : Table) (w v : ℕ) (rest f : Found) → placeOf w (codes 
 lacked-here codes w v rest Nothing q later h = let same : w ≡ v = cc in rw (← same) q
 lacked-here codes w v rest (At k) q later h = later h
 
-lacked : (codes : Table) (ts : List Token) (v : ℕ) → missing codes ts ≡ At v → placeOf v (codes .values) ≡ Nothing
-unfolding missing
+lacked : (codes : Table) (ts : List Token) (v : ℕ) → lacking codes ts ≡ At v → placeOf v (codes .values) ≡ Nothing
+unfolding lacking
 lacked codes [] v e = let z : _≡_ {A = ℕ} 0 1 = cc in let y : ⊥ = omega arith in absurd y
 lacked codes (raw b ∷ ts) v e = lacked codes ts v e
-lacked codes (code w ∷ ts) v e = lacked-here codes w v (missing codes ts) (placeOf w (codes .values)) refl (lacked codes ts v) e
+lacked codes (code w ∷ ts) v e = lacked-here codes w v (lacking codes ts) (placeOf w (codes .values)) refl (lacked codes ts v) e
 
 pub ac-write-keeps : (plane blocks : ℕ) (codes : Table) (values : List ℤ) (room : ℕ) → Keeps (acWriteRows plane blocks codes values room) room (writeAc plane blocks codes values room)
 unfolding writeAc acWriteRows
@@ -110,7 +110,7 @@ ac-write-keeps plane blocks codes values room =
     need-keeps (eqb (length values) (63 * blocks)) 21 0 _ (λ f. inl (tt, refl)) λ f.
     need-keeps (goodTable codes) 10 0 _ (λ t. inl (tt, refl)) λ t.
     unless-keeps 11 (firstOutside Ac plane values) _ (λ i g. inr (inl (tt, outside-first Ac plane values i g))) λ o.
-    unless-keeps 19 (missing codes (tokens blocks values)) _ (λ v g. inr (inr (inl (tt, lacked codes (tokens blocks values) v g)))) λ m.
+    unless-keeps 19 (lacking codes (tokens blocks values)) _ (λ v g. inr (inr (inl (tt, lacked codes (tokens blocks values) v g)))) λ m.
     fitting-keeps (acBytes blocks codes values) (λ h. inr (inr (inr (tt, (refl, h)))))
 
 -- ---- the transform and the merge

@@ -10,7 +10,7 @@ use lib.Dec.{leb, eqb}
 use lib.IntN.{ℤ, pos}
 use lib.ListN.{length, take, drop}
 use lib.Seq.{take-append-seam}
-use Rattle.listing_text.specs.Text.{listing, listed}
+use Rattle.listing_text.specs.Text.{listing, listPackets}
 use Rattle.laws.specs.Index.{every}
 use Rattle.laws.specs.First.{firstFail}
 use Rattle.answers.specs.Verdict.{Verdict, given, refused, fitting, Meets}
@@ -24,7 +24,7 @@ use Rattle.codes.specs.Table.{Table, goodTable}
 use Rattle.planes.specs.Plane.{readable, writable, Plane, read, broken, closed}
 use Rattle.planes.specs.Dc.{dcBlocks, readDc, dcBytes, writeDc}
 use Rattle.planes.specs.AcRead.{cut, acBlocks, readAc}
-use Rattle.planes.specs.AcWrite.{tokens, missing, acBytes, writeAc}
+use Rattle.planes.specs.AcWrite.{tokens, lacking, acBytes, writeAc}
 use Rattle.boxes.proofs.Order.{handed-given, given-handed}
 use Rattle.transform.specs.Picture as blockwise
 use Rattle.transform.specs.Call.{firstBadQuantiser, inverseTransform}
@@ -155,7 +155,7 @@ module _ (plane blocks : ℕ) (values : List ℤ) (room : ℕ) where
         let b = need-given (eqb (length values) (63 * blocks)) 21 0 _ ys (a .1) in
         let t = need-given (goodTable codes) 10 0 _ ys (b .1) in
         let c = unless-given 11 (firstOutside Ac plane values) _ ys (t .1) in
-        let d = unless-given 19 (missing codes (tokens blocks values)) _ ys (c .1) in
+        let d = unless-given 19 (lacking codes (tokens blocks values)) _ ys (c .1) in
         let h = fitted room (acBytes blocks codes values) ys (d .1) in
         record { counts = a .0; long = eqb-true (length values) (63 * blocks) (b .0); good = t .0; ranged = c .0; held = d .0; bytes = h .0; fits = h .1 }
 
@@ -200,12 +200,12 @@ module _ (s : Setting) (pixels : ℕ) (base residual : List ℤ) (table : List �
       rw (h .ranges, h .one, h .srgb, h .lengths, h .entries) (fits-given room (picture s pixels base residual table) ys (h .results) (h .fits))
 
 module _ (file : List ℕ) (room : ℕ) where
-  listed-text : (ys : List ℕ) → listed file room ≡ given ys → Listed file room ys
-  unfolding listed
+  listed-text : (ys : List ℕ) → listPackets file room ≡ given ys → Listed file room ys
+  unfolding listPackets
   listed-text ys e = let h = fitted room (listing file) ys e in record { text = h .0; fits = h .1 }
 
-  text-listed : (ys : List ℕ) → Listed file room ys → listed file room ≡ given ys
-  unfolding listed
+  text-listed : (ys : List ℕ) → Listed file room ys → listPackets file room ≡ given ys
+  unfolding listPackets
   text-listed ys h = fits-given room (listing file) ys (h .text) (h .fits)
 
 pub demand-two : DemandTwo

@@ -17,9 +17,9 @@ use Rattle.packets.specs.declared.Step.{Step}
 use Rattle.packets.specs.declared.Step.the-variants.{End, Skip, Meet, Broken}
 use Rattle.packets.specs.Packets.{Packet, packets, mine}
 use Rattle.packets.proofs.Walking.{walk-begun, walk-not, forward-skip, forward-meet, ending-end, ending-broken, ending-skip, ending-meet}
-use Rattle.numbers.specs.Numbers.{numbers, twice, missing}
+use Rattle.numbers.specs.Numbers.{numbers, firstTwice, firstMissing}
 use Rattle.numbers.proofs.Smallest.{smallest-twice, smallest-missing}
-use Rattle.boxes.specs.Box.{agree, contents, total, joined, assembled, assemble, afterWalk, boxOf}
+use Rattle.boxes.specs.Box.{agree, contents, total, joined, assembled, assemble, afterWalk, boxBytes}
 use Rattle.boxes.proofs.Order.{fine-total}
 use Rattle.demands.specs.One.{Rows, rows, _or_, Reached, first, skipped, met, brokenAt, packetRows, boxRows}
 use Rattle.demands.proofs.Rows.{Keeps, gives, refuses, need-keeps, unless-keeps, fitting-keeps}
@@ -94,12 +94,12 @@ module _ (file : List ℕ) where
 -- ---- the packets of one box
 
 packets-keep : (ps : List Packet) (room : ℕ) → Keeps (packetRows ps room) room (assemble room ps)
-unfolding assemble assembled packetRows missing
+unfolding assemble assembled packetRows firstMissing
 packets-keep [] room = refuses (inl (tt, refl))
 packets-keep (p ∷ ps) room =
     need-keeps (agree (p .head) (p ∷ ps)) 5 0 _ (λ e. inl (tt, refl)) λ e.
-    unless-keeps 6 (twice (numbers (p ∷ ps))) _ (λ q f. inr (inl (tt, smallest-twice (numbers (p ∷ ps)) q f))) λ t.
-    unless-keeps 7 (missing (numbers (p ∷ ps))) _ (λ q f. inr (inr (inl (tt, smallest-missing (numbers (p ∷ ps)) (length (numbers (p ∷ ps))) 1 q f)))) λ m.
+    unless-keeps 6 (firstTwice (numbers (p ∷ ps))) _ (λ q f. inr (inl (tt, smallest-twice (numbers (p ∷ ps)) q f))) λ t.
+    unless-keeps 7 (firstMissing (numbers (p ∷ ps))) _ (λ q f. inr (inr (inl (tt, smallest-missing (numbers (p ∷ ps)) (length (numbers (p ∷ ps))) 1 q f)))) λ m.
     need-keeps (eqb (total (p ∷ ps)) (contents (p .head))) 8 (total (p ∷ ps)) _ (λ f. inr (inr (inr (inl (tt, refl))))) λ f.
     fitting-keeps (joined (p ∷ ps)) (λ h. inr (inr (inr (inr (tt, (fine-total (p ∷ ps) t m, h))))))
 
@@ -107,8 +107,8 @@ more-rows : {A : Type 0} {some others : Rows} {room : ℕ} {v : Verdict A} → (
 more-rows f (gives h) = gives h
 more-rows f (refuses {r} t) = refuses (f (r .number) (r .place) t)
 
-pub box-keeps : (file : List ℕ) (kind instance room : ℕ) → Keeps (boxRows file kind instance room) room (boxOf file kind instance room)
-unfolding boxOf boxRows
+pub box-keeps : (file : List ℕ) (kind instance room : ℕ) → Keeps (boxRows file kind instance room) room (boxBytes file kind instance room)
+unfolding boxBytes boxRows
 box-keeps file kind instance room = go (ending (walk file)) refl
   where
     after : (r : Refusal) → ending (walk file) ≡ Refused r → (begins file ≡ true) ⊎ (begins file ≡ false) → boxRows file kind instance room (r .number) (r .place)

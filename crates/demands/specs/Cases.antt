@@ -8,7 +8,7 @@ use Rattle.answers.specs.Verdict.{Verdict, given, refused, refusal}
 use Rattle.codes.specs.Table.{Table, table}
 use Rattle.planes.specs.Dc.{readDc}
 use Rattle.planes.specs.AcRead.{readAc}
-use Rattle.boxes.specs.Box.{boxOf}
+use Rattle.boxes.specs.Box.{boxBytes}
 use Rattle.transform.specs.Call.{inverseTransform}
 use Rattle.curves.specs.declared.Curve.the-variants.{Straight}
 use Rattle.pixel.specs.declared.Setting.{Setting}
@@ -38,7 +38,7 @@ pub data Result : Type 0 where
 
 -- by the definitions of 01
 unfoldable pub resultOf : Asked → Result
-resultOf (box file kind instance room) = naturals (boxOf file kind instance room)
+resultOf (box file kind instance room) = naturals (boxBytes file kind instance room)
 resultOf (acRead plane blocks T values bytes room) = integers (readAc plane blocks T values bytes room)
 resultOf (dcRead plane blocks values bytes room) = integers (readDc plane blocks values bytes room)
 resultOf (transformed refinement blocks values quantisers room) = integers (inverseTransform refinement blocks values quantisers room)

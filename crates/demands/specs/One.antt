@@ -8,7 +8,7 @@ use Prim.Native.Nat.{ℕ, _+_, _-_, _*_, _≤_, _<_}
 use lib.Dec.{T, eqb}
 use lib.IntN.{ℤ, pos}
 use lib.ListN.{length, getD, drop, replicate}
-use Rattle.listing_text.specs.Text.{listing, listed}
+use Rattle.listing_text.specs.Text.{listing, listPackets}
 use Rattle.laws.specs.declared.Found.the-variants.{Nothing}
 use Rattle.answers.specs.Verdict.{refusal, Meets}
 use Rattle.answers.specs.declared.Answer.{Answer}
@@ -24,7 +24,7 @@ use Rattle.packets.specs.declared.Head.{Head}
 use Rattle.packets.specs.declared.Step.the-variants.{Skip, Meet, Broken}
 use Rattle.packets.specs.Packets.{Packet, packets, mine}
 use Rattle.numbers.specs.Numbers.{numbers, count}
-use Rattle.boxes.specs.Box.{total, boxOf}
+use Rattle.boxes.specs.Box.{total, boxBytes}
 use Rattle.transform.specs.Call.{isQuantiser, inverseTransform}
 use Rattle.rounding.specs.Near.{top}
 use Rattle.pixel.specs.declared.Setting.{Setting}
@@ -170,10 +170,10 @@ mergeRows s pixels table room =
 
 pub record DemandOne : Type 0 where
   pub boxes : (file : List ℕ) (kind instance : ℕ) (before after : List ℕ) (answer : Answer)
-      → Meets 0 (boxOf file kind instance (length before)) before after answer
+      → Meets 0 (boxBytes file kind instance (length before)) before after answer
       → Answered 0 (boxRows file kind instance (length before)) before after answer
   pub listings : (file before after : List ℕ) (answer : Answer)
-      → Meets 0 (listed file (length before)) before after answer
+      → Meets 0 (listPackets file (length before)) before after answer
       → Answered 0 (listRows file (length before)) before after answer
   pub dcRead : (plane blocks : ℕ) (values : List ℤ) (bytes : List ℕ) (before after : List ℤ) (answer : Answer)
       → Meets (pos 0) (readDc plane blocks values bytes (length before)) before after answer

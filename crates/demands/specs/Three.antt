@@ -15,7 +15,7 @@ use Rattle.levels.specs.declared.Part.the-variants.{Dc, Ac}
 use Rattle.codes.specs.Table.{Table, goodTable}
 use Rattle.planes.specs.Dc.{readDc, writeDc, dcBytes}
 use Rattle.planes.specs.AcRead.{readAc}
-use Rattle.planes.specs.AcWrite.{writeAc, tokens, missing, acBytes}
+use Rattle.planes.specs.AcWrite.{writeAc, tokens, lacking, acBytes}
 use Rattle.planes.specs.Levels.{downward, towardZero, atLevel, climb}
 
 -- "Plane j" of a picture means both, DC and AC: the values of its blocks, or the bytes of a plane
@@ -46,7 +46,7 @@ pub record Lent : Type 0 where
 -- "given room and code tables that hold every code needed"
 pub record Enough (n : ℕ) (values : Both ℤ) (lent : Lent) : Type 0 where
   pub good : goodTable (lent .table) ≡ true
-  pub codes : missing (lent .table) (tokens n (values .ac)) ≡ Nothing
+  pub codes : lacking (lent .table) (tokens n (values .ac)) ≡ Nothing
   pub dcRoom : length (dcBytes (values .dc)) ≤ lent .dcRoom
   pub acRoom : length (acBytes n (lent .table) (values .ac)) ≤ lent .acRoom
   pub dcSpace : n ≤ lent .dcSpace

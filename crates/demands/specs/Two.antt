@@ -9,7 +9,7 @@ use lib.Dec.{leb, eqb}
 use lib.IntN.{ℤ, pos, _+ℤ_, _*ℤ_}
 use lib.ListN.{length, getD, take}
 use lib.Signed.{shrZ}
-use Rattle.listing_text.specs.Text.{listing, listed}
+use Rattle.listing_text.specs.Text.{listing, listPackets}
 use Rattle.laws.specs.Index.{sumTo, every}
 use Rattle.laws.specs.First.{firstFail}
 use Rattle.laws.specs.declared.Found.the-variants.{Nothing}
@@ -22,8 +22,8 @@ use Rattle.codes.specs.Table.{Table, goodTable}
 use Rattle.planes.specs.Plane.{readable, writable, read}
 use Rattle.planes.specs.Dc.{dcBlocks, readDc, dcBytes, writeDc}
 use Rattle.planes.specs.AcRead.{cut, acBlocks, readAc}
-use Rattle.planes.specs.AcWrite.{tokens, missing, acBytes, writeAc}
-use Rattle.boxes.specs.Box.{boxOf}
+use Rattle.planes.specs.AcWrite.{tokens, lacking, acBytes, writeAc}
+use Rattle.boxes.specs.Box.{boxBytes}
 use Rattle.boxes.specs.Order.{HandedOut}
 use Rattle.kernel.specs.Cosines.{kernel}
 use Rattle.transform.specs.Zigzag.{zigzag}
@@ -83,7 +83,7 @@ pub record AcCoded (plane blocks : ℕ) (codes : Table) (values : List ℤ) (roo
   pub long : length values ≡ 63 * blocks
   pub good : goodTable codes ≡ true
   pub ranged : firstOutside Ac plane values ≡ Nothing
-  pub held : missing codes (tokens blocks values) ≡ Nothing
+  pub held : lacking codes (tokens blocks values) ≡ Nothing
   pub bytes : ys ≡ acBytes blocks codes values
   pub fits : length ys ≤ room
 
@@ -112,9 +112,9 @@ pub record Merged (s : Setting) (pixels : ℕ) (base residual : List ℤ) (table
 
 pub record DemandTwo : Type 0 where
   pub boxes : (file : List ℕ) (kind instance : ℕ) (before after : List ℕ) (answer : Answer)
-      → Meets 0 (boxOf file kind instance (length before)) before after answer → Exactly (HandedOut file kind instance (length before)) after answer
+      → Meets 0 (boxBytes file kind instance (length before)) before after answer → Exactly (HandedOut file kind instance (length before)) after answer
   pub listings : (file before after : List ℕ) (answer : Answer)
-      → Meets 0 (listed file (length before)) before after answer → Exactly (Listed file (length before)) after answer
+      → Meets 0 (listPackets file (length before)) before after answer → Exactly (Listed file (length before)) after answer
   pub dcRead : (plane blocks : ℕ) (values : List ℤ) (bytes : List ℕ) (before after : List ℤ) (answer : Answer)
       → Meets (pos 0) (readDc plane blocks values bytes (length before)) before after answer
       → Exactly (DcRefined plane blocks values bytes (length before)) after answer

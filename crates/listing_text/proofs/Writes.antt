@@ -19,7 +19,7 @@ use Rattle.packets.specs.declared.Step.the-variants.{End, Skip, Meet, Broken}
 use Rattle.packets.specs.Walk.{stepAt, stepsFrom, walk, ending}
 use Rattle.packets.specs.Packets.{Packet, packetsIn}
 use Rattle.packets.proofs.Walking.{forward-meet, packets-end, packets-broken, packets-skip, packets-meet, packets-all, part-length}
-use Rattle.listing_text.specs.Text.{line, lines, header, answer, listing, listed, decIn, dec, glyph, hex, write, Wrote}
+use Rattle.listing_text.specs.Text.{line, lines, header, answer, listing, listPackets, decIn, dec, glyph, hex, write, Wrote}
 
 less : (a b : ℕ) → (a < b) ⊎ (b ≤ a)
 less a b = go (ltb a b) refl
@@ -195,14 +195,14 @@ module _ (file : List ℕ) where
       (ap (λ (ps : List Packet). header ++ (lines ps ++ answer 0 0)) (packets-all file count e))
 
 module _ (file : List ℕ) {d after : List ℕ} {r : ℕ} (w : Wrote d after 0 r (listing file)) where
-  pub listed-short : length after < r → listed file (length d) ≡ refused (refusal 9 r)
-  unfolding listed
+  pub listed-short : length after < r → listPackets file (length d) ≡ refused (refusal 9 r)
+  unfolding listPackets
   listed-short h =
       let n : length (listing file) ≡ r = omega (arith, w .next) in
       rw (n, lt-leb r (length d) (omega (arith, wrote-length w)))
 
-  pub listed-fits : r ≤ length after → (listed file (length d) ≡ given (listing file)) × (r ≡ length (listing file)) × (after ≡ listing file ++ drop (length (listing file)) d)
-  unfolding listed
+  pub listed-fits : r ≤ length after → (listPackets file (length d) ≡ given (listing file)) × (r ≡ length (listing file)) × (after ≡ listing file ++ drop (length (listing file)) d)
+  unfolding listPackets
   listed-fits h =
       let n : r ≡ length (listing file) = omega (arith, w .next) in (
         rw (le-leb (length (listing file)) (length d) (omega (arith, wrote-length w))),

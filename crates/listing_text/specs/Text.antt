@@ -54,8 +54,8 @@ unfoldable pub listing : List ℕ → List ℕ
 listing file = header ++ cond (ltb 65536 (length file)) (answer 20 0) (afterWalk (ending (walk file)) (lines (packets file)))
 
 -- the listing in a lent buffer
-unfoldable pub listed : List ℕ → ℕ → Verdict ℕ
-listed file room = fitting room (listing file)
+unfoldable pub listPackets : List ℕ → ℕ → Verdict ℕ
+listPackets file room = fitting room (listing file)
 
 -- a text stored from a position on, as far as there is room
 unfoldable pub write : List ℕ → ℕ → List ℕ → List ℕ

@@ -9,7 +9,7 @@ ghost use lib.ListN.{length};
 ghost use Rattle.answers.specs.Verdict.{Meets, Tried};
 ghost use Rattle.packets.specs.Walk.{stepsFrom};
 ghost use Rattle.packets.specs.Packets.{packetsIn};
-ghost use Rattle.listing_text.specs.Text.{listed, dec, hex, lines, Wrote};
+ghost use Rattle.listing_text.specs.Text.{listPackets, dec, hex, lines, Wrote};
 ghost use Rattle.listing_text.specs.Text.{glyph as Text·glyph, line as Text·line, answer as Text·answer, listing as Text·listing};
 
 // Stores a byte where there is room, and answers the next position.
@@ -159,7 +159,7 @@ fn put_listing(out: &mut [u8], file: &[u8]) -> usize
 }
 
 fn try_list(file: &[u8], text: &mut [u8]) -> Outcome
-    ensures { λ r. ⌜ Tried 0 (listed (now (file .entry)) (length (now (text .entry)))) (now (text .entry)) (now (text .exit)) r ⌝ }
+    ensures { λ r. ⌜ Tried 0 (listPackets (now (file .entry)) (length (now (text .entry)))) (now (text .entry)) (now (text .exit)) r ⌝ }
 {
     let end = put_listing(text, file);
     if text.len() < end {
@@ -170,7 +170,7 @@ fn try_list(file: &[u8], text: &mut [u8]) -> Outcome
 
 // The listing of a file's packets.
 pub fn list_packets(file: &[u8], text: &mut [u8]) -> Answer
-    ensures { λ r. ⌜ Meets 0 (listed (now (file .entry)) (length (now (text .entry)))) (now (text .entry)) (now (text .exit)) r ⌝ }
+    ensures { λ r. ⌜ Meets 0 (listPackets (now (file .entry)) (length (now (text .entry)))) (now (text .entry)) (now (text .exit)) r ⌝ }
 {
     let o = try_list(file, text);
     match o {

@@ -13,7 +13,7 @@ use borrow.Author.Tests.{eqb-true, eqb-false, ltb-true, ltb-false}
 use Rattle.laws.specs.declared.Found.{Found}
 use Rattle.laws.specs.declared.Found.the-variants.{At, Nothing}
 use Rattle.laws.proofs.Choices.{either}
-use Rattle.numbers.specs.Numbers.{count, twice, within, between, chosen, TwiceIn}
+use Rattle.numbers.specs.Numbers.{count, firstTwice, within, between, chosen, TwiceIn}
 use Rattle.numbers.proofs.Counts.{count-other}
 use Rattle.numbers.proofs.Smallest.{within-true, within-told, never-twice, smallest-twice, twice-is, twice-none}
 
@@ -152,7 +152,7 @@ apart-chosen lo hi q (x ∷ r) w = go (within lo hi x) refl (eqb x q) refl (apar
     go false s d t ih = ih
 
 -- the numbers of a window, searched in hand
-pub window-twice : (lo hi : ℕ) (ns : List ℕ) (f : Found) → f ≡ twice (chosen lo hi ns) → TwiceIn lo hi ns f
+pub window-twice : (lo hi : ℕ) (ns : List ℕ) (f : Found) → f ≡ firstTwice (chosen lo hi ns) → TwiceIn lo hi ns f
 window-twice lo hi ns Nothing e = λ j u v. omega (arith, never-twice (chosen lo hi ns) (sym e) j, count-chosen lo hi j ns (within-true lo hi j u v))
 window-twice lo hi ns (At q) e = go (within lo hi q) refl (smallest-twice (chosen lo hi ns) q (sym e))
   where
@@ -183,12 +183,12 @@ windows-next ns lo hi h t e j l = ⊎-elim
     (λ u. subst (TwiceIn lo hi ns) e t j (ltb-false j lo u) l)
     (either (ltb j lo))
 
-pub windows-found : (ns : List ℕ) (lo hi : ℕ) {f : Found} {q : ℕ} → ((j : ℕ) → j < lo → count j ns ≤ 1) → TwiceIn lo hi ns f → f ≡ At q → At q ≡ twice ns
+pub windows-found : (ns : List ℕ) (lo hi : ℕ) {f : Found} {q : ℕ} → ((j : ℕ) → j < lo → count j ns ≤ 1) → TwiceIn lo hi ns f → f ≡ At q → At q ≡ firstTwice ns
 windows-found ns lo hi {f} {q} h t e =
     let g : (1 < count q ns) × ((j : ℕ) → lo ≤ j → j < q → count j ns ≤ 1) = subst (TwiceIn lo hi ns) e t in
     sym (twice-is ns q (g .0) (λ j l. ⊎-elim (λ u. h j (ltb-true j lo u)) (λ u. g .1 j (ltb-false j lo u) l) (either (ltb j lo))))
 
-pub windows-end : (ns : List ℕ) (lo top : ℕ) → ((j : ℕ) → j < lo → count j ns ≤ 1) → top ≤ lo → ((q : ℕ) → top ≤ q → count q ns ≡ 0) → Nothing ≡ twice ns
+pub windows-end : (ns : List ℕ) (lo top : ℕ) → ((j : ℕ) → j < lo → count j ns ≤ 1) → top ≤ lo → ((q : ℕ) → top ≤ q → count q ns ≡ 0) → Nothing ≡ firstTwice ns
 windows-end ns lo top h g z = sym (twice-none ns (λ j. ⊎-elim
     (λ u. h j (ltb-true j lo u))
     (λ u. omega (arith, z j (omega (arith, ltb-false j lo u))))

@@ -12,7 +12,7 @@ use Rattle.laws.specs.declared.Found.the-variants.{At, Nothing}
 use Rattle.laws.proofs.Choices.{either}
 use Rattle.packets.specs.Packets.{Packet, Met, mineFrom}
 use Rattle.packets.specs.declared.Head.{Head}
-use Rattle.numbers.specs.Numbers.{numbers, numbersFrom, count, least, twice, missingFrom}
+use Rattle.numbers.specs.Numbers.{numbers, numbersFrom, count, least, firstTwice, missingFrom}
 
 -- ---- the numbers of a pass
 
@@ -84,13 +84,13 @@ unfolding least
 least-right Nothing = refl
 least-right (At a) = refl
 
-pub twice-turn : (ns : List ℕ) (w : Found) {v t : Found} {x : ℕ} {r : List ℕ} → least w (twice ns) ≡ t → ns ≡ x ∷ r
-    → v ≡ least w (cond (eqb (count x r) 0) Nothing (At x)) → least v (twice r) ≡ t
-unfolding twice
-twice-turn ns w {v} {t} {x} {r} h e f = rw f (least-assoc w (cond (eqb (count x r) 0) Nothing (At x)) (twice r) ∙ (rw e at h))
+pub twice-turn : (ns : List ℕ) (w : Found) {v t : Found} {x : ℕ} {r : List ℕ} → least w (firstTwice ns) ≡ t → ns ≡ x ∷ r
+    → v ≡ least w (cond (eqb (count x r) 0) Nothing (At x)) → least v (firstTwice r) ≡ t
+unfolding firstTwice
+twice-turn ns w {v} {t} {x} {r} h e f = rw f (least-assoc w (cond (eqb (count x r) 0) Nothing (At x)) (firstTwice r) ∙ (rw e at h))
 
-pub twice-end : (ns : List ℕ) (w : Found) {t : Found} → least w (twice ns) ≡ t → ns ≡ [] → w ≡ t
-unfolding twice
+pub twice-end : (ns : List ℕ) (w : Found) {t : Found} → least w (firstTwice ns) ≡ t → ns ≡ [] → w ≡ t
+unfolding firstTwice
 twice-end ns w h e = least-right w ∙ (rw e at h)
 
 -- ---- the smallest number that is missing

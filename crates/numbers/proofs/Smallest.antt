@@ -11,7 +11,7 @@ use borrow.Author.Tests.{ne-eqb, eqb-true, eqb-false, lt-ltb, le-ltb, ltb-true, 
 use Rattle.laws.specs.declared.Found.{Found}
 use Rattle.laws.specs.declared.Found.the-variants.{At, Nothing}
 use Rattle.laws.proofs.Choices.{either, at-one, at-nothing}
-use Rattle.numbers.specs.Numbers.{count, least, twice, missingFrom, missing, within, between}
+use Rattle.numbers.specs.Numbers.{count, least, firstTwice, missingFrom, firstMissing, within, between}
 use Rattle.numbers.proofs.Counts.{count-none, count-here, count-other, count-grows}
 
 -- ---- a number that stands twice
@@ -28,11 +28,11 @@ least-above q (At c) Nothing b = (b, tt)
 least-above q (At c) (At d) b = (omega arith, omega arith)
 
 -- each number below what `twice` gives stands once at most
-twice-above : (ns : List ℕ) (q : ℕ) → Above q (twice ns) → (j : ℕ) → j < q → count j ns ≤ 1
-unfolding twice
+twice-above : (ns : List ℕ) (q : ℕ) → Above q (firstTwice ns) → (j : ℕ) → j < q → count j ns ≤ 1
+unfolding firstTwice
 twice-above [] q a j l = omega (arith, count-none j)
 twice-above (x ∷ r) q a j l =
-    let s = least-above q (cond (eqb (count x r) 0) Nothing (At x)) (twice r) a in
+    let s = least-above q (cond (eqb (count x r) 0) Nothing (At x)) (firstTwice r) a in
     ⊎-elim
     (λ t. let e : x ≡ j = eqb-true x j t in here e (eqb (count x r) 0) refl (s .0))
     (λ t. rw (count-other x j r (eqb-false x j t)) (twice-above r q (s .1) j l))
@@ -43,15 +43,15 @@ twice-above (x ∷ r) q a j l =
     here e false t c = absurd (omega arith)
 
 -- what `twice` gives does stand twice
-twice-stands : (ns : List ℕ) (q : ℕ) → twice ns ≡ At q → 1 < count q ns
-unfolding twice least
+twice-stands : (ns : List ℕ) (q : ℕ) → firstTwice ns ≡ At q → 1 < count q ns
+unfolding firstTwice least
 twice-stands [] q e = absurd (at-nothing (sym e))
-twice-stands (x ∷ r) q e = go (eqb (count x r) 0) refl (twice r) (λ k f. twice-stands r k f) refl e
+twice-stands (x ∷ r) q e = go (eqb (count x r) 0) refl (firstTwice r) (λ k f. twice-stands r k f) refl e
   where
     here : (count x r ≡ 0 → ⊥) → x ≡ q → 1 < count q (x ∷ r)
     here n u = rw (← u) (omega (arith, count-here x x r refl, n))
 
-    go : (b : Bool) → eqb (count x r) 0 ≡ b → (y : Found) → ((k : ℕ) → twice r ≡ At k → 1 < count k r) → twice r ≡ y
+    go : (b : Bool) → eqb (count x r) 0 ≡ b → (y : Found) → ((k : ℕ) → firstTwice r ≡ At k → 1 < count k r) → firstTwice r ≡ y
         → least (cond b Nothing (At x)) y ≡ At q → 1 < count q (x ∷ r)
     go true t y ih g f = omega (arith, ih q (g ∙ f), count-grows x q r)
     go false t Nothing ih g f = here (eqb-false (count x r) 0 t) (at-one f)
@@ -61,31 +61,31 @@ twice-stands (x ∷ r) q e = go (eqb (count x r) 0) refl (twice r) (λ k f. twic
         pick true s = let z : d ≡ q = omega (arith, at-one f, ltb-true d x s) in omega (arith, ih q (g ∙ ap At z), count-grows x q r)
         pick false s = here (eqb-false (count x r) 0 t) (omega (arith, at-one f, ltb-false d x s))
 
-pub never-twice : (ns : List ℕ) → twice ns ≡ Nothing → (q : ℕ) → count q ns ≤ 1
+pub never-twice : (ns : List ℕ) → firstTwice ns ≡ Nothing → (q : ℕ) → count q ns ≤ 1
 never-twice ns e q = twice-above ns (suc q) (subst (Above (suc q)) (sym e) tt) q (omega arith)
 
 -- 6: the number stands twice, and it is the smallest such
-pub smallest-twice : (ns : List ℕ) (q : ℕ) → twice ns ≡ At q → (1 < count q ns) × ((j : ℕ) → j < q → count j ns ≤ 1)
+pub smallest-twice : (ns : List ℕ) (q : ℕ) → firstTwice ns ≡ At q → (1 < count q ns) × ((j : ℕ) → j < q → count j ns ≤ 1)
 smallest-twice ns q e = (twice-stands ns q e, twice-above ns q (subst (Above q) (sym e) (self q)))
   where
     self : (q : ℕ) → q ≤ q
     self q = omega arith
 
-pub twice-none : (ns : List ℕ) → ((q : ℕ) → count q ns ≤ 1) → twice ns ≡ Nothing
-twice-none ns h = go (twice ns) refl
+pub twice-none : (ns : List ℕ) → ((q : ℕ) → count q ns ≤ 1) → firstTwice ns ≡ Nothing
+twice-none ns h = go (firstTwice ns) refl
   where
-    go : (f : Found) → twice ns ≡ f → twice ns ≡ Nothing
+    go : (f : Found) → firstTwice ns ≡ f → firstTwice ns ≡ Nothing
     go Nothing e = e
     go (At q) e = absurd (omega (arith, twice-stands ns q e, h q))
 
-pub twice-is : (ns : List ℕ) (q : ℕ) → 1 < count q ns → ((j : ℕ) → j < q → count j ns ≤ 1) → twice ns ≡ At q
-twice-is ns q l h = go (twice ns) refl
+pub twice-is : (ns : List ℕ) (q : ℕ) → 1 < count q ns → ((j : ℕ) → j < q → count j ns ≤ 1) → firstTwice ns ≡ At q
+twice-is ns q l h = go (firstTwice ns) refl
   where
-    go : (f : Found) → twice ns ≡ f → twice ns ≡ At q
+    go : (f : Found) → firstTwice ns ≡ f → firstTwice ns ≡ At q
     go Nothing e = absurd (omega (arith, never-twice ns e q))
     go (At a) e = pick (ltb a q) refl (ltb q a) refl
       where
-        pick : (b : Bool) → ltb a q ≡ b → (d : Bool) → ltb q a ≡ d → twice ns ≡ At q
+        pick : (b : Bool) → ltb a q ≡ b → (d : Bool) → ltb q a ≡ d → firstTwice ns ≡ At q
         pick true s d t = absurd (omega (arith, h a (ltb-true a q s), twice-stands ns a e))
         pick false s true t = absurd (omega (arith, smallest-twice ns a e .1 q (ltb-true q a t)))
         pick false s false t = e ∙ ap At (omega (arith, ltb-false a q s, ltb-false q a t))
@@ -237,8 +237,8 @@ between-all (x ∷ r) lo hi = go (within lo hi x) (between-all r lo hi)
     go false ih = omega arith
 
 -- n numbers of which none of 1..n is missing have none twice
-pub pigeonhole : (ns : List ℕ) → missing ns ≡ Nothing → twice ns ≡ Nothing
-unfolding missing
+pub pigeonhole : (ns : List ℕ) → firstMissing ns ≡ Nothing → firstTwice ns ≡ Nothing
+unfolding firstMissing
 pigeonhole ns e = twice-none ns (λ q. go q (within 1 (1 + length ns) q) refl)
   where
     go : (q : ℕ) (b : Bool) → within 1 (1 + length ns) q ≡ b → count q ns ≤ 1

@@ -29,9 +29,9 @@ least (At a) Nothing = At a
 least (At a) (At b) = At (min a b)
 
 -- 6, "a sequence number stands twice": "the smallest such"
-unfoldable pub twice : List ℕ → Found
-twice [] = Nothing
-twice (x ∷ r) = least (cond (eqb (count x r) 0) Nothing (At x)) (twice r)
+unfoldable pub firstTwice : List ℕ → Found
+firstTwice [] = Nothing
+firstTwice (x ∷ r) = least (cond (eqb (count x r) 0) Nothing (At x)) (firstTwice r)
 
 -- the smallest of the k numbers from q on that does not stand
 unfoldable pub missingFrom : ℕ → ℕ → List ℕ → Found
@@ -39,8 +39,8 @@ missingFrom zero q ns = Nothing
 missingFrom (suc k) q ns = cond (eqb (count q ns) 0) (At q) (missingFrom k (suc q) ns)
 
 -- 7, "a sequence number is missing": "smallest missing of 1..n"
-unfoldable pub missing : List ℕ → Found
-missing ns = missingFrom (length ns) 1 ns
+unfoldable pub firstMissing : List ℕ → Found
+firstMissing ns = missingFrom (length ns) 1 ns
 
 -- ---- how many numbers lie from lo on and below hi
 

@@ -8,7 +8,7 @@ ghost use mathlib.Core.List.{List, _∷_};
 ghost use Prim.Native.Nat.{ℕ, _+_, _≤_, _<_};
 ghost use lib.ListN.{length, take, drop};
 ghost use lib.Dec.{eqb};
-ghost use Rattle.numbers.specs.Numbers.{numbersFrom, count, least, twice, between, chosen, TwiceIn};
+ghost use Rattle.numbers.specs.Numbers.{numbersFrom, count, least, firstTwice, between, chosen, TwiceIn};
 ghost use Rattle.numbers.specs.Numbers.{within as Numbers·within};
 
 fn within(lo: usize, hi: usize, x: usize) -> bool
@@ -52,7 +52,7 @@ fn lower(w: Found, q: usize, again: usize) -> Found
 
 // The smallest number in hand that stands twice.
 fn least_twice(held: &[u32]) -> Found
-    ensures { λ r. ⌜ r ≡ twice (now (held .entry)) ⌝ }
+    ensures { λ r. ⌜ r ≡ firstTwice (now (held .entry)) ⌝ }
 {
     let mut i: usize = 0;
     let mut w = Found::Nothing;
@@ -192,7 +192,7 @@ fn twice_in(file: &[u8], kind: u32, instance: u16, lo: usize, hi: usize, held: &
 
 // The smallest sequence number that stands twice, with an array that takes the numbers of a window.
 fn twice_by(file: &[u8], kind: u32, instance: u16, held: &mut [u32]) -> Found
-    ensures { λ r. ⌜ r ≡ twice (numbersFrom (now (file .entry)) kind instance 2) ⌝ }
+    ensures { λ r. ⌜ r ≡ firstTwice (numbersFrom (now (file .entry)) kind instance 2) ⌝ }
 {
     let top = past_all(file, kind, instance);
     let mut lo: usize = 0;
@@ -212,7 +212,7 @@ fn twice_by(file: &[u8], kind: u32, instance: u16, held: &mut [u32]) -> Found
 
 // The smallest sequence number that stands twice.
 pub fn first_twice(file: &[u8], kind: u32, instance: u16) -> Found
-    ensures { λ r. ⌜ r ≡ twice (numbersFrom (now (file .entry)) kind instance 2) ⌝ }
+    ensures { λ r. ⌜ r ≡ firstTwice (numbersFrom (now (file .entry)) kind instance 2) ⌝ }
 {
     let mut held = [0u32; 16384];
     twice_by(file, kind, instance, &mut held)

@@ -23,7 +23,7 @@ use Rattle.codes.proofs.Trip.{bin-odd, halve, code-trip}
 use Rattle.planes.specs.Plane.{read, onto}
 use Rattle.planes.specs.Task.{Task, walk, ended, unit, atZero}
 use Rattle.planes.specs.AcRead.{takeNumber, endRun, meaning, taskAt, position, blockEnd, acBlock, acBlocks}
-use Rattle.planes.specs.AcWrite.{acHalf, Kind, keep, still, fresh, kindOf, oneMore, ahead, unlessNew, quiet, planned, plan, Token, code, raw, order, class, emit, mark, after, writeBlock, writeBlocks, orElse, missing, spelled}
+use Rattle.planes.specs.AcWrite.{acHalf, Kind, keep, still, fresh, kindOf, oneMore, ahead, unlessNew, quiet, planned, plan, Token, code, raw, order, class, emit, mark, after, writeBlock, writeBlocks, orElse, lacking, spelled}
 
 -- ---- tokens
 
@@ -40,13 +40,13 @@ split T s (raw v ∷ a) b u h = let r = split T (h .0) a b u (h .2) in (r .0, (h
 
 -- bits that spell tokens, none of which the table lacks, say them
 module _ (T : Table) (good : goodTable T ≡ true) where
-  pub spelled-says : (ws : List Token) (s u : Source) → missing T ws ≡ Nothing → Gives s (spelled T ws) u → Says T s ws u
-  unfolding spelled missing
+  pub spelled-says : (ws : List Token) (s u : Source) → lacking T ws ≡ Nothing → Gives s (spelled T ws) u → Says T s ws u
+  unfolding spelled lacking
   spelled-says [] s u m g = g
   spelled-says (raw b ∷ ws) s u m g = (g .0, g .1, spelled-says ws (g .0) u m (g .2))
   spelled-says (code v ∷ ws) s u m g = go (placeOf v (T .values)) refl m (λ t n h. spelled-says ws t u n h)
     where
-      go : (f : Found) → placeOf v (T .values) ≡ f → orElse v f (missing T ws) ≡ Nothing → ((t : Source) → missing T ws ≡ Nothing → Gives t (spelled T ws) u → Says T t ws u)
+      go : (f : Found) → placeOf v (T .values) ≡ f → orElse v f (lacking T ws) ≡ Nothing → ((t : Source) → lacking T ws ≡ Nothing → Gives t (spelled T ws) u → Says T t ws u)
           → Says T s (code v ∷ ws) u
       go Nothing e m ih = let z : _≡_ {A = ℕ} 0 1 = cc in absurd (omega arith)
       go (At k) e m ih =

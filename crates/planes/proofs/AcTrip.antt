@@ -22,7 +22,7 @@ use Rattle.codes.specs.Table.{Table, goodTable}
 use Rattle.codes.proofs.Trip.{halve}
 use Rattle.planes.specs.Plane.{writable, read, closed}
 use Rattle.planes.specs.AcRead.{cut, acBlocks, readAc}
-use Rattle.planes.specs.AcWrite.{acHalf, Token, tokens, missing, spelled, acBytes, writeAc}
+use Rattle.planes.specs.AcWrite.{acHalf, Token, tokens, lacking, spelled, acBytes, writeAc}
 use Rattle.planes.specs.Levels.{towardZero, atLevel}
 use Rattle.planes.proofs.Ranges.{ranged}
 use Rattle.planes.proofs.Closing.{closed-well}
@@ -66,7 +66,7 @@ record Wrote (plane blocks : ℕ) (T : Table) (values : List ℤ) (bytes : List 
   count : length values ≡ 63 * blocks
   table : goodTable T ≡ true
   inside : firstOutside Ac plane values ≡ Nothing
-  codes : missing T (tokens blocks values) ≡ Nothing
+  codes : lacking T (tokens blocks values) ≡ Nothing
   same : acBytes blocks T values ≡ bytes
 
 wrote : (plane blocks : ℕ) (T : Table) (values : List ℤ) (room : ℕ) (bytes : List ℕ) → writeAc plane blocks T values room ≡ given bytes → Wrote plane blocks T values bytes
@@ -76,7 +76,7 @@ wrote plane blocks T values room bytes w =
     let w21 = need-given (eqb (length values) (63 * blocks)) 21 0 _ bytes (w20 .1) in
     let w10 = need-given (goodTable T) 10 0 _ bytes (w21 .1) in
     let w11 = unless-given 11 (firstOutside Ac plane values) _ bytes (w10 .1) in
-    let w19 = unless-given 19 (missing T (tokens blocks values)) _ bytes (w11 .1) in
+    let w19 = unless-given 19 (lacking T (tokens blocks values)) _ bytes (w11 .1) in
     record {
       ranges = w20 .0;
       count = eqb-true (length values) (63 * blocks) (w21 .0);
@@ -128,7 +128,7 @@ ac-trip plane blocks T values room space bytes w h =
 
 module _ (k blocks : ℕ) (few : k ≤ 4) (many : blocks ≤ 1024) (full : List ℤ) (count : length full ≡ 63 * blocks) (range : firstOutside Ac k full ≡ Nothing) where
   -- each plane is accepted by the writer, with a table that holds every code needed
-  module _ (T : Table) (j : ℕ) (l : j < k) (table : goodTable T ≡ true) (codes : missing T (tokens blocks (atLevel towardZero k full (suc j))) ≡ Nothing) where
+  module _ (T : Table) (j : ℕ) (l : j < k) (table : goodTable T ≡ true) (codes : lacking T (tokens blocks (atLevel towardZero k full (suc j))) ≡ Nothing) where
     pub ac-written : (room : ℕ) → length (acBytes blocks T (atLevel towardZero k full (suc j))) ≤ room
         → writeAc (suc j) blocks T (atLevel towardZero k full (suc j)) room ≡ given (acBytes blocks T (atLevel towardZero k full (suc j)))
     unfolding writeAc

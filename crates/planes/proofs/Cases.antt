@@ -17,7 +17,7 @@ use Rattle.codes.specs.Write.{placeOf}
 use Rattle.planes.specs.Plane.{onto, closed}
 use Rattle.planes.specs.Dc.{newDc, dcBlocks, readDc, dcHalf, dcBit, writeDc}
 use Rattle.planes.specs.AcRead.{takeNumber, endRun, meaning, taskAt, position, blockEnd, acBlock, cut, acBlocks, readAc}
-use Rattle.planes.specs.AcWrite.{acHalf, kindOf, oneMore, ahead, quiet, plan, order, emit, writeBlock, writeBlocks, tokens, missing, writeAc}
+use Rattle.planes.specs.AcWrite.{acHalf, kindOf, oneMore, ahead, quiet, plan, order, emit, writeBlock, writeBlocks, tokens, lacking, writeAc}
 
 -- "Table T: lengths 2, values 00, 01, F0 (codes 00, 01, 10)."
 abbrev pub T : Table
@@ -65,7 +65,7 @@ case-d-write = refl
 
 -- "writer's table lacks a code: the code's value": a new value at position 1 needs 01
 pub lacking-code : writeAc 1 1 (table (0 ∷ 2 ∷ replicate 14 0) (0x00 ∷ 0xf0 ∷ [])) (block (pos 1)) 8 ≡ refused (refusal 19 1)
-unfolding every firstFail orHere inLevel isDc inside firstOutside digits total kraft holds distinct goodTable placeOf cut kindOf oneMore ahead quiet plan order emit writeBlock writeBlocks tokens missing writeAc
+unfolding every firstFail orHere inLevel isDc inside firstOutside digits total kraft holds distinct goodTable placeOf cut kindOf oneMore ahead quiet plan order emit writeBlock writeBlocks tokens lacking writeAc
 lacking-code = refl
 
 -- "Halving a negative AC downward: -3 must give -1, not -2."; DC is halved downward

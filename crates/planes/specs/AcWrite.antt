@@ -123,10 +123,10 @@ abbrev pub orElse : ℕ → Found → Found → Found
 orElse v Nothing rest = At v
 orElse v (At k) rest = rest
 
-unfoldable pub missing : Table → List Token → Found
-missing T [] = Nothing
-missing T (raw b ∷ rest) = missing T rest
-missing T (code v ∷ rest) = orElse v (placeOf v (T .values)) (missing T rest)
+unfoldable pub lacking : Table → List Token → Found
+lacking T [] = Nothing
+lacking T (raw b ∷ rest) = lacking T rest
+lacking T (code v ∷ rest) = orElse v (placeOf v (T .values)) (lacking T rest)
 
 unfoldable pub spelled : Table → List Token → List Bool
 spelled T [] = []
@@ -143,5 +143,5 @@ writeAc plane blocks T values room =
     (need (eqb (length values) (63 * blocks)) 21 0
     (need (goodTable T) 10 0
     (unless 11 (firstOutside Ac plane values)
-    (unless 19 (missing T (tokens blocks values))
+    (unless 19 (lacking T (tokens blocks values))
     (fitting room (acBytes blocks T values))))))

@@ -4,12 +4,12 @@ ghost use mathlib.Core.Path.{_≡_};
 ghost use lib.IntN.{pos};
 ghost use lib.ListN.{length};
 ghost use Rattle.answers.specs.Verdict.{Meets};
-ghost use Rattle.boxes.specs.Box.{boxOf};
+ghost use Rattle.boxes.specs.Box.{boxBytes};
 ghost use Rattle.codes.specs.Table.{table};
 ghost use Rattle.planes.specs.Dc.{readDc, writeDc};
 ghost use Rattle.planes.specs.AcRead.{readAc};
 ghost use Rattle.planes.specs.AcWrite.{writeAc};
-ghost use Rattle.listing_text.specs.Text.{listed};
+ghost use Rattle.listing_text.specs.Text.{listPackets};
 ghost use Rattle.reader_c.specs.Merge.{colourOf, curveOf, matrixOf, residualOf, known, matrixCount, weightsOf, settingOf, barred, mergeCall};
 ghost use Rattle.transform.specs.Call.{inverseTransform};
 
@@ -22,7 +22,7 @@ pub extern "C" fn xt_box_bytes(
     destination: &mut [u8],
     place: &mut u64,
 ) -> u32
-    ensures { λ r. ⌜ Meets 0 (boxOf (now (file .entry)) kind instance (length (now (destination .entry)))) (now (destination .entry)) (now (destination .exit)) (record { number = r; place = now (place .exit) }) ⌝ }
+    ensures { λ r. ⌜ Meets 0 (boxBytes (now (file .entry)) kind instance (length (now (destination .entry)))) (now (destination .entry)) (now (destination .exit)) (record { number = r; place = now (place .exit) }) ⌝ }
 {
     let a = boxes::box_bytes(file, kind, instance, destination);
     *place = a.place as u64;
@@ -32,7 +32,7 @@ pub extern "C" fn xt_box_bytes(
 // The listing of a file's packets as text.
 #[no_mangle]
 pub extern "C" fn xt_list_packets(file: &[u8], text: &mut [u8], place: &mut u64) -> u32
-    ensures { λ r. ⌜ Meets 0 (listed (now (file .entry)) (length (now (text .entry)))) (now (text .entry)) (now (text .exit)) (record { number = r; place = now (place .exit) }) ⌝ }
+    ensures { λ r. ⌜ Meets 0 (listPackets (now (file .entry)) (length (now (text .entry)))) (now (text .entry)) (now (text .exit)) (record { number = r; place = now (place .exit) }) ⌝ }
 {
     let a = listing_text::list_packets(file, text);
     *place = a.place as u64;

@@ -2,7 +2,7 @@
 use Rattle.numbers.proofs.Chosen.{drop-next}
 -- `numbers::least_twice` meets its contract: the least of what was found and what is left is the least of all.
 use Rattle.numbers.proofs.Counts.{twice-turn, twice-end}
-use Rattle.numbers.specs.Numbers.{least, twice}
+use Rattle.numbers.specs.Numbers.{least, firstTwice}
 use lib.ListN.{length, drop, drop-of-length-le}
 use Prim.Native.Nat.{_-_, _≤_}
 use mathlib.Core.Path.{_≡_, refl}
@@ -12,7 +12,7 @@ use Rattle.numbers.proofs.least_twice.Statement.{statement}
 use Rattle.numbers.proofs.least_twice.Tie as tie
 
 abbrev Inv-loop : tie.InvT-loop
-Inv-loop held i₀ w₀ i w = (least w (twice (drop i held)) ≡ twice held) × (i ≤ length held)
+Inv-loop held i₀ w₀ i w = (least w (firstTwice (drop i held)) ≡ firstTwice held) × (i ≤ length held)
 
 abbrev μ-loop : tie.MeasureT-loop
 μ-loop held i₀ w₀ i w = length held - i

@@ -2,7 +2,7 @@
 use lib.Seq.{length-take-le}
 -- `numbers::twice_in` meets its contract: a window of one number is counted, another is searched in hand.
 use Rattle.numbers.proofs.Chosen.{window-twice, single-once, single-twice}
-use Rattle.numbers.specs.Numbers.{twice}
+use Rattle.numbers.specs.Numbers.{firstTwice}
 use mathlib.Core.Path.{sym, ap, _∙_}
 use native.Mathlib.Omega.{arith}
 use borrow.Author.Needs.{needs}
@@ -22,7 +22,7 @@ slice-aggregate-least-twice : tie.Need-slice-aggregate-least-twice
 slice-aggregate-least-twice c = sym (length-take-le _ _ (search needs))
 
 returns-3 : tie.Need-returns-3
-returns-3 c = window-twice _ _ _ _ (c .least-twice .ensures ∙ ap twice (c .before .before .before .before .gather .ensures .0))
+returns-3 c = window-twice _ _ _ _ (c .least-twice .ensures ∙ ap firstTwice (c .before .before .before .before .gather .ensures .0))
 
 pub twice-in-spec : {M : Type 1} → statement M
 twice-in-spec =
