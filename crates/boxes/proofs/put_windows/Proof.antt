@@ -21,23 +21,23 @@ loop-holds : tie.Need-loop-holds Inv-loop μ-loop
 loop-holds c = (joined-start _ _ (c .before .before .before .pre .1 .many) _ (c .before .before .before .pre .1 .fits), omega arith, refl)
 
 put-window-requires : tie.Need-put-window-requires Inv-loop μ-loop
-put-window-requires c κs = let t = windows-turn _ _ _ (c .before .before .lesser .result) (c .before .before .before .before .loop .inv .0) (c .before .before .lesser .ensures .0 .0) in
+put-window-requires c κs = let t = windows-turn _ _ _ (c .before .before .lesser .result) (c .before .before .before .before .loop .inv .0) (omega (arith, c .before .before .lesser .ensures)) in
     let q = c .before .before .before .before .before .before .before .before .pre .1 in
     record {
-      few = omega (arith, c .before .before .lesser .ensures .0, c .before .before .before .before .before .before .before .before .pre .1 .many);
-      held = c .before .before .lesser .ensures .0 .1;
+      few = omega (arith, c .before .before .lesser .ensures, c .before .before .before .before .before .before .before .before .pre .1 .many);
+      held = omega (arith, c .before .before .lesser .ensures);
       once = c .before .before .before .before .before .before .before .before .pre .1 .once;
       fits = t .0;
     }
 
 add-passed : tie.Need-add-passed Inv-loop μ-loop
-add-passed c = omega (arith, c .before .before .before .before .before .before .before .lesser .ensures .0)
+add-passed c = omega (arith, c .before .before .before .before .before .before .before .lesser .ensures)
 
 loop-less : tie.Need-loop-less Inv-loop μ-loop
-loop-less c = omega (arith, c .before .before .before .before .before .before .before .lesser .ensures .0, c .before .before .before .before .before .before .before .lesser .ensures .1 (omega arith) (omega (arith, c .before .before .before .before .before .before .before .before .before .before .before .before .before .pre .0, c .before .before .before .before .before .before .before .before .before .loop .inv .2)))
+loop-less c = omega (arith, c .before .before .before .before .before .before .before .lesser .ensures, c .before .before .before .before .before .before .before .before .before .before .before .before .before .pre .0, c .before .before .before .before .before .before .before .before .before .loop .inv .2)
 
 loop-again : tie.Need-loop-again Inv-loop μ-loop
-loop-again c = (windows-turn _ _ _ (c .before .before .before .before .before .before .before .lesser .result) (c .before .before .before .before .before .before .before .before .before .loop .inv .0) (c .before .before .before .before .before .before .before .lesser .ensures .0 .0) .1 _ _ (c .before .before .before .before .put-window .ensures .0) (c .before .before .before .before .put-window .ensures .1), omega (arith, c .before .before .before .before .before .before .before .lesser .ensures .0), search needs)
+loop-again c = (windows-turn _ _ _ (c .before .before .before .before .before .before .before .lesser .result) (c .before .before .before .before .before .before .before .before .before .loop .inv .0) (omega (arith, c .before .before .before .before .before .before .before .lesser .ensures)) .1 _ _ (c .before .before .before .before .put-window .ensures .0) (c .before .before .before .before .put-window .ensures .1), omega (arith, c .before .before .before .before .before .before .before .lesser .ensures), search needs)
 
 same-length : tie.Need-same-length Inv-loop μ-loop
 same-length c = c .before .loop .inv .2

@@ -20,21 +20,21 @@ loop-holds : tie.Need-loop-holds Inv-loop μ-loop
 loop-holds c = let e : c .before .before .args .n - 0 ≡ c .before .before .args .n = omega arith in (rw e, omega arith, refl)
 
 add-t19 : tie.Need-add-t19 Inv-loop μ-loop
-add-t19 c = let h = window-index (c .before .before .before .before .before .before .before .before .locate .ensures) _ (c .before .before .before .before .before .before .before .before .before .before .before .before .before .before .args .n - c .before .before .before .before .before .before .before .before .before .before .before .loop .passed) (omega (arith, c .before .before .before .before .before .lesser .ensures .0)) (omega (arith, c .before .before .before .before .before .lesser .ensures .0)) (c .before .before .before .first-gone .ensures) (c .before .i .given .1) in omega (arith, c .before .before .before .before .before .lesser .ensures .0)
+add-t19 c = let h = window-index (c .before .before .before .before .before .before .before .before .locate .ensures) _ (c .before .before .before .before .before .before .before .before .before .before .before .before .before .before .args .n - c .before .before .before .before .before .before .before .before .before .before .before .loop .passed) (omega (arith, c .before .before .before .before .before .lesser .ensures)) (omega (arith, c .before .before .before .before .before .lesser .ensures)) (c .before .before .before .first-gone .ensures) (c .before .i .given .1) in omega (arith, c .before .before .before .before .before .lesser .ensures)
 
 returns : tie.Need-returns Inv-loop μ-loop
-returns c = sym (window-missing (c .before .before .before .before .before .before .before .before .locate .ensures) _ (c .before .before .before .before .before .before .before .before .before .before .before .before .before .before .args .n - c .before .before .before .before .before .before .before .before .before .before .before .loop .passed) (omega (arith, c .before .before .before .before .before .lesser .ensures .0)) (omega (arith, c .before .before .before .before .before .lesser .ensures .0)) (c .before .before .before .first-gone .ensures) (c .before .i .given .1)) ∙ c .before .before .before .before .before .before .before .before .before .before .before .loop .inv .0
+returns c = sym (window-missing (c .before .before .before .before .before .before .before .before .locate .ensures) _ (c .before .before .before .before .before .before .before .before .before .before .before .before .before .before .args .n - c .before .before .before .before .before .before .before .before .before .before .before .loop .passed) (omega (arith, c .before .before .before .before .before .lesser .ensures)) (omega (arith, c .before .before .before .before .before .lesser .ensures)) (c .before .before .before .first-gone .ensures) (c .before .i .given .1)) ∙ c .before .before .before .before .before .before .before .before .before .before .before .loop .inv .0
 
 add-passed : tie.Need-add-passed Inv-loop μ-loop
-add-passed c = omega (arith, c .before .before .before .before .lesser .ensures .0)
+add-passed c = omega (arith, c .before .before .before .before .lesser .ensures)
 
 loop-less : tie.Need-loop-less Inv-loop μ-loop
-loop-less c = omega (arith, c .before .before .before .before .lesser .ensures .0, c .before .before .before .before .lesser .ensures .1 (omega arith) (search needs))
+loop-less c = omega (arith, c .before .before .before .before .lesser .ensures)
 
 loop-again : tie.Need-loop-again Inv-loop μ-loop
-loop-again c = let w = window-passed (c .before .before .before .before .before .before .before .locate .ensures) (c .before .before .before .before .lesser .result) (c .before .before .before .before .before .before .before .before .before .before .before .before .before .args .n - c .before .before .before .before .before .before .before .before .before .before .loop .passed) (omega (arith, c .before .before .before .before .lesser .ensures .0)) (omega (arith, c .before .before .before .before .lesser .ensures .0)) (c .before .before .first-gone .ensures) (c .enum-told .given .1) in
+loop-again c = let w = window-passed (c .before .before .before .before .before .before .before .locate .ensures) (c .before .before .before .before .lesser .result) (c .before .before .before .before .before .before .before .before .before .before .before .before .before .args .n - c .before .before .before .before .before .before .before .before .before .before .loop .passed) (omega (arith, c .before .before .before .before .lesser .ensures)) (omega (arith, c .before .before .before .before .lesser .ensures)) (c .before .before .first-gone .ensures) (c .enum-told .given .1) in
     let e : c .before .before .before .before .before .before .before .before .before .before .before .before .before .args .n - (c .before .before .before .before .before .before .before .before .before .before .loop .passed + c .before .before .before .before .lesser .result) ≡ c .before .before .before .before .before .before .before .before .before .before .before .before .before .args .n - c .before .before .before .before .before .before .before .before .before .before .loop .passed - c .before .before .before .before .lesser .result = omega arith in
-    (rw e (sym w ∙ c .before .before .before .before .before .before .before .before .before .before .loop .inv .0), omega (arith, c .before .before .before .before .lesser .ensures .0), search needs)
+    (rw e (sym w ∙ c .before .before .before .before .before .before .before .before .before .before .loop .inv .0), omega (arith, c .before .before .before .before .lesser .ensures), search needs)
 
 returns-2 : tie.Need-returns-2 Inv-loop μ-loop
 returns-2 c = sym (missing-done _ _ _ (omega arith)) ∙ c .before .loop .inv .0
