@@ -2,7 +2,6 @@
 use laws::Found;
 ghost use mathlib.Core.Path.{_≡_};
 ghost use Prim.Native.Nat.{_≤_, _<_};
-ghost use lib.ListN.{length};
 ghost use Rattle.asking.specs.Words.{readFrom, typeOf, instanceOf};
 ghost use Rattle.asking.specs.Words.{digit as Words·digit};
 

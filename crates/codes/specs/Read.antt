@@ -1,12 +1,12 @@
 -- Reading a code (T.81, Annexes C and F).
-use mathlib.Core.Bool.{Bool, cond}
+use mathlib.Core.Bool.{cond}
 use mathlib.Core.List.{List, [], _∷_}
 use Prim.Native.Nat.{ℕ, _+_, _-_, _*_}
 use lib.Dec.{ltb}
 use lib.ListN.{getD, drop}
 use Rattle.bits.specs.Digits.{bin}
-use Rattle.bits.specs.Source.{Out, got, stopped, stop, takeBit}
-use Rattle.bits.specs.Reader.{Reader, andThen, _>>=_, done, fail}
+use Rattle.bits.specs.Source.{Out, got, stopped, takeBit}
+use Rattle.bits.specs.Reader.{Reader, _>>=_, done, fail}
 use Rattle.bits.specs.Code.{sourceOf}
 use Rattle.codes.specs.Table.{Table}
 use Rattle.codes.specs.declared.Coded.{Coded}

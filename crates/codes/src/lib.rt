@@ -5,7 +5,6 @@ ghost use Prim.Native.Nat.{_+_, _*_, _^_, _≤_, _<_};
 ghost use lib.ListN.{length, drop};
 ghost use Rattle.bits.specs.Digits.{digits};
 ghost use Rattle.bits.specs.Code.{sourceOf, Sound, Puts};
-ghost use Rattle.laws.specs.declared.Found.the-variants.{At};
 ghost use Rattle.codes.specs.Table.{table, total, kraft, holds, distinct, goodTable};
 ghost use Rattle.codes.specs.Read.{takeCode, codedOf};
 ghost use Rattle.codes.specs.Write.{placeOf, codeAt};

@@ -1,5 +1,5 @@
 -- The range of a value at a level (01, "Ranges").
-use mathlib.Core.Bool.{Bool, true, false, cond}
+use mathlib.Core.Bool.{Bool, true, false}
 use mathlib.Core.List.{List}
 use Prim.Native.Nat.{ℕ, _+_, _^_, _%_}
 use lib.Dec.{eqb, ltb}

@@ -2,10 +2,9 @@
 use answers::Outcome;
 use answers::Refusal;
 ghost use mathlib.Core.Path.{_≡_};
-ghost use mathlib.Core.Bool.{false, cond};
+ghost use mathlib.Core.Bool.{false};
 ghost use Prim.Native.Nat.{_+_, _≤_, _<_};
 ghost use lib.ListN.{length, drop};
-ghost use lib.Dec.{eqb};
 ghost use Rattle.packets.specs.Walk.{ones, headAt, packetAt, wholeAt, sizedAt, stepAt, stepsFrom, walk, ending};
 ghost use Rattle.packets.specs.Walk.{be16 as Walk·be16, be32 as Walk·be32, barred as Walk·barred, tagged as Walk·tagged, begins as Walk·begins};
 ghost use Rattle.packets.specs.Packets.{isMine, NextIs};
