@@ -127,7 +127,7 @@ fn try_read_ac(
 ) -> Outcome
     ensures { λ r. ⌜ Tried (pos 0) (readAc plane blocks (table (now (counts .entry)) (now (codes .entry))) (now (values .entry)) (now («data» .entry)) (length (now (destination .entry)))) (now (destination .entry)) (now (destination .exit)) r ⌝ }
 {
-    if !planes::in_ranges(plane, blocks) {
+    if !planes::readable(plane, blocks) {
         return answers::refuse(20, 0);
     }
     let count = 63 * blocks;

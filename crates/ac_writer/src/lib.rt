@@ -303,7 +303,7 @@ fn try_write_ac(
 ) -> Outcome
     ensures { λ r. ⌜ Tried 0 (written.writeAc plane blocks (table (now (counts .entry)) (now (codes .entry))) (now (values .entry)) (length (now (destination .entry)))) (now (destination .entry)) (now (destination .exit)) r ⌝ }
 {
-    if !planes::in_written_ranges(plane, blocks) {
+    if !planes::writable(plane, blocks) {
         return answers::refuse(20, 0);
     }
     if values.len() != 63 * blocks {

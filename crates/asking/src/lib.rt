@@ -58,7 +58,7 @@ fn read_number(word: &[u8], base: usize) -> Found
 }
 
 // The type that a word asks for.
-pub fn read_type(word: &[u8]) -> Found
+pub fn type_of(word: &[u8]) -> Found
     ensures { λ r. ⌜ r ≡ typeOf (now (word .entry)) ⌝ }
 {
     if word.len() == 4 {
@@ -73,7 +73,7 @@ pub fn read_type(word: &[u8]) -> Found
 }
 
 // The instance that a word asks for.
-pub fn read_instance(word: &[u8]) -> Found
+pub fn instance_of(word: &[u8]) -> Found
     ensures { λ r. ⌜ r ≡ instanceOf (now (word .entry)) ⌝ }
 {
     if word.len() == 0 {

@@ -45,13 +45,13 @@ fn hand_out(kind: u32, instance: u16) {
 fn asked_kind() -> Found {
     let mut word = [0u8; 16];
     let n = os::arg(1, &mut word);
-    asking::read_type(&word[..n])
+    asking::type_of(&word[..n])
 }
 
 fn asked_instance() -> Found {
     let mut word = [0u8; 16];
     let n = os::arg(2, &mut word);
-    asking::read_instance(&word[..n])
+    asking::instance_of(&word[..n])
 }
 
 fn main() {

@@ -69,7 +69,7 @@ fn read_dc_blocks(data: &[u8], values: &[i32], destination: &mut [i32]) -> Block
 }
 
 // Whether plane and blocks lie in the ranges that a reader takes.
-pub fn in_ranges(plane: u32, blocks: usize) -> bool
+pub fn readable(plane: u32, blocks: usize) -> bool
     ensures { λ r. ⌜ r ≡ every (readable plane blocks) ⌝ }
 {
     if plane < 1 {
@@ -82,10 +82,10 @@ pub fn in_ranges(plane: u32, blocks: usize) -> bool
 }
 
 // Whether they lie in the ranges that a writer takes.
-pub fn in_written_ranges(plane: u32, blocks: usize) -> bool
+pub fn writable(plane: u32, blocks: usize) -> bool
     ensures { λ r. ⌜ r ≡ every (writable plane blocks) ⌝ }
 {
-    in_ranges(plane, blocks)
+    readable(plane, blocks)
 }
 
 // What must follow the last block; `count` values were written.
@@ -113,7 +113,7 @@ fn try_read_dc(
 ) -> Outcome
     ensures { λ r. ⌜ Tried (pos 0) (readDc plane blocks (now (values .entry)) (now («data» .entry)) (length (now (destination .entry)))) (now (destination .entry)) (now (destination .exit)) r ⌝ }
 {
-    if !in_ranges(plane, blocks) {
+    if !readable(plane, blocks) {
         return answers::refuse(20, 0);
     }
     if values.len() != blocks {
@@ -178,7 +178,7 @@ fn put_dc_bits(values: &[i32], destination: &mut [u8]) -> Putter
 fn try_write_dc(plane: u32, blocks: usize, values: &[i32], destination: &mut [u8]) -> Outcome
     ensures { λ r. ⌜ Tried 0 (writeDc plane blocks (now (values .entry)) (length (now (destination .entry)))) (now (destination .entry)) (now (destination .exit)) r ⌝ }
 {
-    if !in_written_ranges(plane, blocks) {
+    if !writable(plane, blocks) {
         return answers::refuse(20, 0);
     }
     if values.len() != blocks {

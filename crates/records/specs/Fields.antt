@@ -7,8 +7,8 @@ use lib.IntN.{ℤ, pos, _-ℤ_}
 use lib.Dec.{leb}
 
 -- n further on, no further than the end
-unfoldable pub onFrom : ℕ → ℕ → ℕ → ℕ
-onFrom end at n = cond (leb (at + n) end) (at + n) end
+unfoldable pub past : ℕ → ℕ → ℕ → ℕ
+past end at n = cond (leb (at + n) end) (at + n) end
 
 unfoldable pub pairAt : List ℕ → ℕ → ℕ
 pairAt bytes at = getD bytes at 0 + 256 * getD bytes (at + 1) 0
@@ -17,11 +17,11 @@ unfoldable pub numberAt : List ℕ → ℕ → ℕ
 numberAt bytes at = pairAt bytes at + 65536 * pairAt bytes (at + 2)
 
 -- n bytes, or none where there are not so many
-unfoldable pub partAt : List ℕ → ℕ → ℕ → List ℕ
-partAt bytes at n = cond (leb (at + n) (length bytes)) (take n (drop at bytes)) []
+unfoldable pub part : List ℕ → ℕ → ℕ → List ℕ
+part bytes at n = cond (leb (at + n) (length bytes)) (take n (drop at bytes)) []
 
-unfoldable pub lentAt : List ℕ → ℕ → List ℕ
-lentAt bytes at = partAt bytes (at + 4) (numberAt bytes at)
+unfoldable pub lent : List ℕ → ℕ → List ℕ
+lent bytes at = part bytes (at + 4) (numberAt bytes at)
 
 -- a number that is stored with 2^31 added
 abbrev pub lowered : ℕ → ℤ

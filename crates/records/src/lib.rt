@@ -3,7 +3,7 @@ ghost use mathlib.Core.Path.{_≡_};
 ghost use Prim.Native.Nat.{_<_};
 ghost use lib.ListN.{length, getD};
 ghost use Rattle.laws.specs.Index.{tab};
-ghost use Rattle.records.specs.Fields.{onFrom, pairAt, numberAt, partAt, lentAt, lowered, valueAt, sizeAt};
+ghost use Rattle.records.specs.Fields.{past, pairAt, numberAt, part, lent, lowered, valueAt, sizeAt};
 
 fn wide(x: u8) -> usize
     ensures { λ r. ⌜ (r ≡ x) × (r < 256) ⌝ }
@@ -13,7 +13,7 @@ fn wide(x: u8) -> usize
 
 // The position n further on, or the end.
 pub fn past(length: usize, at: usize, n: usize) -> usize
-    ensures { λ r. ⌜ r ≡ onFrom length at n ⌝ }
+    ensures { λ r. ⌜ r ≡ past length at n ⌝ }
 {
     if at <= length {
         if n <= length - at {
@@ -51,7 +51,7 @@ pub fn number_at(bytes: &[u8], at: usize) -> usize
 
 // n bytes from a position, or none where there are not so many.
 fn part<'a>(bytes: &'a [u8], at: usize, n: usize) -> &'a [u8]
-    ensures { λ r. ⌜ now r ≡ partAt (now (bytes .entry)) at n ⌝ }
+    ensures { λ r. ⌜ now r ≡ part (now (bytes .entry)) at n ⌝ }
 {
     if bytes.len() < at {
         return &bytes[0..0];
@@ -65,7 +65,7 @@ fn part<'a>(bytes: &'a [u8], at: usize, n: usize) -> &'a [u8]
 
 // The bytes that stand behind their count.
 pub fn lent<'a>(bytes: &'a [u8], at: usize) -> &'a [u8]
-    ensures { λ r. ⌜ now r ≡ lentAt (now (bytes .entry)) at ⌝ }
+    ensures { λ r. ⌜ now r ≡ lent (now (bytes .entry)) at ⌝ }
 {
     let n = number_at(bytes, at);
     let start = past(bytes.len(), at, 4);
@@ -73,7 +73,7 @@ pub fn lent<'a>(bytes: &'a [u8], at: usize) -> &'a [u8]
 }
 
 // A number that is stored with 2^31 added.
-fn signed(w: usize) -> i32
+fn lowered(w: usize) -> i32
     requires { ⌜ w < 4294967296 ⌝ }
     ensures { λ r. ⌜ r ≡ lowered w ⌝ }
 {
@@ -88,7 +88,7 @@ pub fn values_at(bytes: &[u8], at: usize, list: &mut [i32])
     let mut next = at;
     let mut i = 0;
     while i < list.len() {
-        let value = signed(number_at(bytes, next));
+        let value = lowered(number_at(bytes, next));
         list[i] = value;
         next = past(bytes.len(), next, 4);
         i += 1;

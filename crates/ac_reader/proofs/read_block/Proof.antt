@@ -55,7 +55,10 @@ same-length-2 c = c .before .before .before .before .before .before .before .bef
 returns-2 : tie.Need-returns-2 Inv-loop μ-loop
 unfolding placedOf blockOf
 returns-2 c =
-    at-stuck (c .before .before .before .before .before .before .before .before .before .before .loop .inv) (c .before .before .before .before .before .before .before .before .before .loop-test .taken) (told (c .before .before .before .before .before .before)) (rw (old (c .before .before .before .before)) at (sym (c .before .before .before .position .ensures) ∙ ap (placedOf _) (c .before .placed .given .1)))
+    let at-position = c .before .before .before in
+    let at-loop-test = at-position .before .before .before .before .before .before in
+    let at-loop = at-loop-test .before in
+    at-stuck (at-loop .loop .inv) (at-loop-test .loop-test .taken) (told (c .before .before .before .before .before .before)) (rw (old (c .before .before .before .before)) at (sym (at-position .position .ensures) ∙ ap (placedOf _) (c .before .placed .given .1)))
 
 mul-value : tie.Need-mul-value Inv-loop μ-loop
 mul-value c = omega (arith, c .before .before .before .before .before .before .before .before .before .before .before .before .before .before .good .1 .1 .1 .1 .1 .1 .0)
@@ -69,8 +72,11 @@ add-i c = omega (arith, c .before .before .before .before .before .before .befor
 loop-again : tie.Need-loop-again Inv-loop μ-loop
 unfolding placedOf
 loop-again c =
+    let at-position = c .before .before .before in
+    let at-loop-test = at-position .before .before .before .before .before .before in
+    let at-loop = at-loop-test .before in
     rw (back w32 _ (c .known-told4 .given .0 .1))
-    (at-turn (c .before .before .before .before .before .before .before .before .before .before .loop .inv) (c .before .before .before .before .before .before .before .before .before .loop-test .taken) (told (c .before .before .before .before .before .before)) (rw (old (c .before .before .before .before)) at (sym (c .before .before .before .position .ensures) ∙ ap (placedOf _) (c .before .placed2 .given .1))))
+    (at-turn (at-loop .loop .inv) (at-loop-test .loop-test .taken) (told (c .before .before .before .before .before .before)) (rw (old (c .before .before .before .before)) at (sym (at-position .position .ensures) ∙ ap (placedOf _) (c .before .placed2 .given .1))))
 
 same-length-3 : tie.Need-same-length-3 Inv-loop μ-loop
 same-length-3 c = c .before .before .loop .inv .long ∙ sym (c .before .before .before .before .before .before .pre .1 .1)

@@ -46,9 +46,11 @@ part-read-block-end-2 c = let h = room (c .before) in search needs
 
 read-block-requires : tie.Need-read-block-requires Inv-loop μ-loop
 read-block-requires c κs =
-    let a = c .before .before .before .before .before .before .before .args in
-    let at = c .before .before .before .loop .at in
-    (c .before .before .before .before .before .before .before .pre .0, (small-part at (at + 63 - at) (a .values .now) (c .before .before .before .before .before .before .before .pre .1 .0), mid-len at (at + 63) (c .before .before .before .loop .destination) (room (c .before .before)) ∙ sym (mid-len at (at + 63) (a .values .now) (within (c .before .before)))))
+    let at-loop = c .before .before .before in
+    let at-entry = at-loop .before .before .before .before in
+    let a = at-entry .args in
+    let at = at-loop .loop .at in
+    (at-entry .pre .0, (small-part at (at + 63 - at) (a .values .now) (at-entry .pre .1 .0), mid-len at (at + 63) (at-loop .loop .destination) (room (c .before .before)) ∙ sym (mid-len at (at + 63) (a .values .now) (within (c .before .before)))))
 
 -- as many values come back as were lent
 long : (c : tie.After-read-block Inv-loop μ-loop) → length (c .read-block .last .1 .1 .1 .1 .1 .1 .1 .0) ≡ c .before .before .before .before .loop .at + 63 - c .before .before .before .before .loop .at
@@ -56,11 +58,21 @@ long c = c .read-block .kept .1 .1 .1 .1 .1 .1 .1 .0 ∙ mid-len (c .before .bef
 
 returns : tie.Need-returns Inv-loop μ-loop
 unfolding blockOf
-returns c = behind-stopped (c .before .before .before .before .before .before .before .before .loop .inv) (c .before .before .before .before .before .before .before .loop-test .taken) (c .before .before .before .before .before .before .before .before .before .before .before .before .pre .1 .1 .1) (c .before .before .before .before .read-block .last .1 .1 .1 .1 .1 .1 .1 .0) (long (c .before .before .before .before)) (sym (c .before .before .before .before .read-block .ensures) ∙ ap (blockOf _ _) (c .before .read .given .1))
+returns c =
+    let at-read-block = c .before .before .before .before in
+    let at-loop-test = at-read-block .before .before .before in
+    let at-loop = at-loop-test .before in
+    let at-entry = at-loop .before .before .before .before in
+    behind-stopped (at-loop .loop .inv) (at-loop-test .loop-test .taken) (at-entry .pre .1 .1 .1) (at-read-block .read-block .last .1 .1 .1 .1 .1 .1 .1 .0) (long at-read-block) (sym (at-read-block .read-block .ensures) ∙ ap (blockOf _ _) (c .before .read .given .1))
 
 loop-again : tie.Need-loop-again Inv-loop μ-loop
 unfolding blockOf
-loop-again c = behind-one (c .before .before .before .before .before .before .before .before .loop .inv) (c .before .before .before .before .before .before .before .loop-test .taken) (c .before .before .before .before .before .before .before .before .before .before .before .before .pre .1 .1 .1) _ (long (c .before .before .before .before)) (sym (c .before .before .before .before .read-block .ensures) ∙ ap (blockOf _ _) (c .before .read2 .given .1))
+loop-again c =
+    let at-read-block = c .before .before .before .before in
+    let at-loop-test = at-read-block .before .before .before in
+    let at-loop = at-loop-test .before in
+    let at-entry = at-loop .before .before .before .before in
+    behind-one (at-loop .loop .inv) (at-loop-test .loop-test .taken) (at-entry .pre .1 .1 .1) _ (long at-read-block) (sym (at-read-block .read-block .ensures) ∙ ap (blockOf _ _) (c .before .read2 .given .1))
 
 same-length-2 : tie.Need-same-length-2 Inv-loop μ-loop
 same-length-2 c = c .before .loop .inv .long

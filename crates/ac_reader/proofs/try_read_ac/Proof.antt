@@ -17,11 +17,11 @@ use Rattle.ac_reader.proofs.try_read_ac.Tie as tie
 
 returns : tie.Need-returns
 unfolding readAc
-returns c = tried-refused (c .refuse .ensures) (rw (sym (c .before .before .in-ranges .ensures) ∙ not-true _ (c .before .if1 .taken)))
+returns c = tried-refused (c .refuse .ensures) (rw (sym (c .before .before .readable .ensures) ∙ not-true _ (c .before .if1 .taken)))
 
 -- the counts are good
 counts : (c : tie.Else1) → every (readable (c .before .before .before .before .before .args .plane) (c .before .before .before .before .before .args .blocks)) ≡ true
-counts c = sym (c .before .in-ranges .ensures) ∙ not-false _ (c .if1 .left)
+counts c = sym (c .before .readable .ensures) ∙ not-false _ (c .if1 .left)
 
 good : (c : tie.Else1) → Ranged (c .before .before .before .before .before .args .plane) (c .before .before .before .before .before .args .blocks)
 good c = ranged (c .before .before .before .before .before .args .plane) (c .before .before .before .before .before .args .blocks) (counts c)
@@ -52,25 +52,39 @@ first-outside-requires c κs = let r = good (c .before .before .before) in omega
 returns-4 : tie.Need-returns-4
 unfolding readAc
 returns-4 c =
+    let at-i = c .before .before in
+    let at-first-outside = at-i .before .before in
+    let at-if2 = at-first-outside .before .before .before in
     tried-refused (c .refuse4 .ensures)
-    (rw (counts (c .before .before .before .before .before .before .before .before), eq-eqb _ _ (c .before .before .before .before .before .before .before .if2 .left), tabled (c .before .before .before .before .before), sym (c .before .before .before .before .first-outside .ensures) ∙ c .before .before .i .given .1))
+    (rw (counts (c .before .before .before .before .before .before .before .before), eq-eqb _ _ (at-if2 .if2 .left), tabled (c .before .before .before .before .before), sym (at-first-outside .first-outside .ensures) ∙ at-i .i .given .1))
 
 returns-5 : tie.Need-returns-5
 unfolding readAc
 returns-5 c =
+    let at-enum-told = c .before .before in
+    let at-first-outside = at-enum-told .before .before in
+    let at-if2 = at-first-outside .before .before .before in
     tried-refused (c .refuse5 .ensures)
-    (rw (counts (c .before .before .before .before .before .before .before .before), eq-eqb _ _ (c .before .before .before .before .before .before .before .if2 .left), tabled (c .before .before .before .before .before), sym (c .before .before .before .before .first-outside .ensures) ∙ c .before .before .enum-told .given .1, lt-leb _ _ (c .before .if4 .taken)))
+    (rw (counts (c .before .before .before .before .before .before .before .before), eq-eqb _ _ (at-if2 .if2 .left), tabled (c .before .before .before .before .before), sym (at-first-outside .first-outside .ensures) ∙ at-enum-told .enum-told .given .1, lt-leb _ _ (c .before .if4 .taken)))
 
 read-blocks-requires : tie.Need-read-blocks-requires
 read-blocks-requires c κs =
+    let at-enum-told = c .before .before in
+    let at-first-outside = at-enum-told .before .before in
+    let at-if2 = at-first-outside .before .before .before in
     let r = good (c .before .before .before .before .before .before .before .before) in
-    (tabled (c .before .before .before .before .before), (all-small _ _ _ (omega arith) (sym (c .before .before .before .before .first-outside .ensures) ∙ c .before .before .enum-told .given .1), (c .before .before .before .before .before .before .before .if2 .left, c .before .if4 .left)))
+    (tabled (c .before .before .before .before .before), (all-small _ _ _ (omega arith) (sym (at-first-outside .first-outside .ensures) ∙ at-enum-told .enum-told .given .1), (at-if2 .if2 .left, c .before .if4 .left)))
 
 returns-6 : tie.Need-returns-6
 unfolding readAc
 returns-6 c =
-    rw (counts (c .before .before .before .before .before .before .before .before .before .before .before), eq-eqb _ _ (c .before .before .before .before .before .before .before .before .before .before .if2 .left), tabled (c .before .before .before .before .before .before .before .before), sym (c .before .before .before .before .before .before .before .first-outside .ensures) ∙ c .before .before .before .before .before .enum-told .given .1, le-leb _ _ (c .before .before .before .before .if4 .left))
-    (closing (c .before .before .read-blocks .ensures) (omega (arith, c .before .before .read-blocks .kept .1 .1 .1 .1 .1 .0, c .before .before .before .before .if4 .left)) (c .close-plane .ensures))
+    let at-read-blocks = c .before .before in
+    let at-if4 = at-read-blocks .before .before in
+    let at-enum-told = at-if4 .before in
+    let at-first-outside = at-enum-told .before .before in
+    let at-if2 = at-first-outside .before .before .before in
+    rw (counts (c .before .before .before .before .before .before .before .before .before .before .before), eq-eqb _ _ (at-if2 .if2 .left), tabled (c .before .before .before .before .before .before .before .before), sym (at-first-outside .first-outside .ensures) ∙ at-enum-told .enum-told .given .1, le-leb _ _ (at-if4 .if4 .left))
+    (closing (at-read-blocks .read-blocks .ensures) (omega (arith, at-read-blocks .read-blocks .kept .1 .1 .1 .1 .1 .0, at-if4 .if4 .left)) (c .close-plane .ensures))
 
 pub try-read-ac-spec : {M : Type 1} → statement M
 try-read-ac-spec =

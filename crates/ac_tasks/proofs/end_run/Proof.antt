@@ -21,8 +21,11 @@ sub-t13 c = omega (arith, moved-one (c .before .before .before .before .before .
 returns : tie.Need-returns
 unfolding endRun toldOf numberOf
 returns c =
-    let a = c .before .before .before .before .before .before .args in
-    rw (sym (c .before .before .before .before .take-number .ensures .same) ∙ ap (numberOf _) (c .before .before .t .given .1), run-fits (a .left) (a .r) (c .before .before .t .given .0 .0) (c .before .before .before .before .before .before .pre) (c .if1 .taken), moved-one (a .r) (c .before .before .before .before .before .before .pre))
+    let at-t = c .before .before in
+    let at-take-number = at-t .before .before in
+    let at-entry = at-take-number .before .before in
+    let a = at-entry .args in
+    rw (sym (at-take-number .take-number .ensures .same) ∙ ap (numberOf _) (at-t .t .given .1), run-fits (a .left) (a .r) (at-t .t .given .0 .0) (at-entry .pre) (c .if1 .taken), moved-one (a .r) (at-entry .pre))
 
 returns-2 : tie.Need-returns-2
 unfolding endRun toldOf numberOf

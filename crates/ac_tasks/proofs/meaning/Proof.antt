@@ -23,15 +23,31 @@ returns-3 c = rw (low-bits (c .before .before .before .before .before .args .v) 
 
 returns-4 : tie.Need-returns-4
 unfolding meaning toldOf takenOf
-returns-4 c = rw (low-one (c .before .before .before .before .before .before .before .before .args .v) (c .before .before .before .before .if2 .left) (c .before .before .before .before .before .if1 .left), sym (c .before .before .before .take-bit .ensures) ∙ ap (takenOf _) (c .before .t .given .1), c .before .before .before .before .before .before .wide .ensures)
+returns-4 c =
+    let at-take-bit = c .before .before .before in
+    let at-if2 = at-take-bit .before in
+    let at-if1 = at-if2 .before in
+    let at-wide = at-if1 .before in
+    let at-entry = at-wide .before .before in
+    rw (low-one (at-entry .args .v) (at-if2 .if2 .left) (at-if1 .if1 .left), sym (at-take-bit .take-bit .ensures) ∙ ap (takenOf _) (c .before .t .given .1), at-wide .wide .ensures)
 
 returns-5 : tie.Need-returns-5
 unfolding meaning toldOf takenOf
-returns-5 c = rw (low-one (c .before .before .before .before .before .before .before .args .v) (c .before .before .before .if2 .left) (c .before .before .before .before .if1 .left), sym (c .before .before .take-bit .ensures) ∙ ap (takenOf _) (c .enum-told .given .1))
+returns-5 c =
+    let at-take-bit = c .before .before in
+    let at-if2 = at-take-bit .before in
+    let at-if1 = at-if2 .before in
+    let at-entry = at-if1 .before .before .before in
+    rw (low-one (at-entry .args .v) (at-if2 .if2 .left) (at-if1 .if1 .left), sym (at-take-bit .take-bit .ensures) ∙ ap (takenOf _) (c .enum-told .given .1))
 
 returns-6 : tie.Need-returns-6
 unfolding meaning toldOf takenOf
-returns-6 c = rw (low-one (c .before .before .before .before .before .before .before .args .v) (c .before .before .before .if2 .left) (c .before .before .before .before .if1 .left), sym (c .before .before .take-bit .ensures) ∙ ap (takenOf _) (c .enum-told2 .given .1))
+returns-6 c =
+    let at-take-bit = c .before .before in
+    let at-if2 = at-take-bit .before in
+    let at-if1 = at-if2 .before in
+    let at-entry = at-if1 .before .before .before in
+    rw (low-one (at-entry .args .v) (at-if2 .if2 .left) (at-if1 .if1 .left), sym (at-take-bit .take-bit .ensures) ∙ ap (takenOf _) (c .enum-told2 .given .1))
 
 pub meaning-spec : {M : Type 1} → statement M
 meaning-spec =

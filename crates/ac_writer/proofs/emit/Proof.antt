@@ -37,7 +37,10 @@ tell-bit-requires c κs =
     (t .put .sound, omega (arith, t .put .near, code-bits _ (a .pre .1 .0) (16 * c .before .before .before .before .before .before .job2 .given .0 .0 + 1), a .pre .0 .near))
 
 tell-run-requires : tie.Need-tell-run-requires
-tell-run-requires c κs = (c .before .before .before .before .before .before .before .pre .0, (c .before .before .before .before .before .before .before .pre .1 .0, short-ended (c .before .before .before .before .before .before .before .pre .1 .1) (c .before .before .job3 .given .1)))
+tell-run-requires c κs =
+    let at-job3 = c .before .before in
+    let at-entry = at-job3 .before .before .before .before .before in
+    (at-entry .pre .0, (at-entry .pre .1 .0, short-ended (at-entry .pre .1 .1) (at-job3 .job3 .given .1)))
 
 returns : tie.Need-returns
 unfolding written.emit

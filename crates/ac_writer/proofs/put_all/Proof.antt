@@ -24,9 +24,13 @@ put-end-requires c κs =
 
 returns-2 : tie.Need-returns-2
 returns-2 c =
-    let a = c .before .before .before .before .before .before .before .before .before .before .before .before .before .before .before .before .args in
-    rw (sym (c .before .before .before .before .before .before .before .before .before .before .before .put-blocks .ensures .lack) ∙ c .before .before .before .before .before .before .before .enum-told .given .1)
-    (fitting-short _ (acBytes (a .blocks) (table (a .counts .now) (a .codes .now)) (a .values .now)) (all-counted (c .before .before .before .before .before .before .before .before .before .before .before .put-blocks .ensures .put) (c .before .before .before .before .put-end .ensures)) (omega arith) (c .refuse2 .ensures))
+    let at-put-end = c .before .before .before .before in
+    let at-enum-told = at-put-end .before .before .before in
+    let at-put-blocks = at-enum-told .before .before .before .before in
+    let at-entry = at-put-blocks .before .before .before .before .before in
+    let a = at-entry .args in
+    rw (sym (at-put-blocks .put-blocks .ensures .lack) ∙ at-enum-told .enum-told .given .1)
+    (fitting-short _ (acBytes (a .blocks) (table (a .counts .now) (a .codes .now)) (a .values .now)) (all-counted (at-put-blocks .put-blocks .ensures .put) (at-put-end .put-end .ensures)) (omega arith) (c .refuse2 .ensures))
 
 returns-3 : tie.Need-returns-3
 returns-3 c =

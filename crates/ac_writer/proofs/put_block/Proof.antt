@@ -25,7 +25,11 @@ step-requires c κs =
     (walk-ready _ _ (c .before .before .loop .inv .1) (a .1 .0 .0) (a .1 .0 .1) (a .0 .1), ((a .1 .0 .0, c .before .loop-test .taken), a .1 .1))
 
 loop-again : tie.Need-loop-again Inv-loop μ-loop
-loop-again c = (c .before .before .step .kept .0 ∙ c .before .before .before .before .before .loop .inv .0, walk-turn _ _ (c .before .before .before .before .before .loop .inv .1) (c .before .before .before .before .loop-test .taken) (c .before .before .step .ensures))
+loop-again c =
+    let at-step = c .before .before in
+    let at-loop-test = at-step .before .before in
+    let at-loop = at-loop-test .before in
+    (at-step .step .kept .0 ∙ at-loop .loop .inv .0, walk-turn _ _ (at-loop .loop .inv .1) (at-loop-test .loop-test .taken) (at-step .step .ensures))
 
 same-length : tie.Need-same-length Inv-loop μ-loop
 same-length c = c .before .before .before .loop .inv .0

@@ -30,7 +30,12 @@ put-block-requires c κs =
     )
 
 loop-again : tie.Need-loop-again Inv-loop μ-loop
-loop-again c = (c .before .before .put-block .kept .0 ∙ c .before .before .before .before .before .before .before .loop .inv .0, run-turn _ _ (c .before .before .before .before .before .before .before .loop .inv .1) _ _ (c .before .before .before .before .before .before .loop-test .taken) (part-is (c .before .before .before .before .before .before .before .before .before .before .before .args .values .now) (c .before .before .before .before .before .before .before .loop .n)) (rest-is (c .before .before .before .before .before .before .before .before .before .before .before .args .values .now) (c .before .before .before .before .before .before .before .loop .n)) (c .before .before .put-block .ensures))
+loop-again c =
+    let at-put-block = c .before .before in
+    let at-loop-test = at-put-block .before .before .before .before in
+    let at-loop = at-loop-test .before in
+    let at-entry = at-loop .before .before .before .before in
+    (at-put-block .put-block .kept .0 ∙ at-loop .loop .inv .0, run-turn _ _ (at-loop .loop .inv .1) _ _ (at-loop-test .loop-test .taken) (part-is (at-entry .args .values .now) (at-loop .loop .n)) (rest-is (at-entry .args .values .now) (at-loop .loop .n)) (at-put-block .put-block .ensures))
 
 same-length : tie.Need-same-length Inv-loop μ-loop
 same-length c = c .before .before .loop .inv .0

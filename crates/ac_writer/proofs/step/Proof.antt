@@ -18,7 +18,11 @@ mark-requires c κs =
 
 returns : tie.Need-returns
 returns c =
-    moves-on _ _ _ _ (c .before .before .before .before .before .before .before .before .before .before .begin .ensures) (c .before .before .before .mark .ensures _) (c .before .before .before .before .before .kind-of .ensures ∙ ap kindOf (back w32 _ (c .before .before .before .before .before .before .kind-of-arg .given))) (c .after .ensures)
+    let at-mark = c .before .before .before in
+    let at-kind-of = at-mark .before .before in
+    let at-kind-of-arg = at-kind-of .before in
+    let at-begin = at-kind-of-arg .before .before .before .before in
+    moves-on _ _ _ _ (at-begin .begin .ensures) (at-mark .mark .ensures _) (at-kind-of .kind-of .ensures ∙ ap kindOf (back w32 _ (at-kind-of-arg .kind-of-arg .given))) (c .after .ensures)
 
 pub step-spec : {M : Type 1} → statement M
 step-spec =

@@ -33,7 +33,12 @@ put-digits-requires c κs =
     (t .put .sound, (omega (arith, t .put .near, code-bits _ (a .pre .1 .0) (16 * c .before .before .before .before .before .before .class-of .result), a .pre .0 .near), omega (arith, c .before .before .before .before .before .before .class-of .ensures .1)))
 
 returns : tie.Need-returns
-returns c = told-run (c .before .before .before .before .before .before .before .before .before .before .before .before .before .args .n) (c .before .before .before .before .before .before .before .before .before .class-of .result) (c .before .before .before .before .before .before .before .before .before .class-of .ensures .0) (c .before .before .before .before .before .before .before .tell-code .ensures) (c .before .before .put-digits .ensures) refl
+returns c =
+    let at-put-digits = c .before .before in
+    let at-tell-code = at-put-digits .before .before .before .before .before in
+    let at-class-of = at-tell-code .before .before in
+    let at-entry = at-class-of .before .before .before .before in
+    told-run (at-entry .args .n) (at-class-of .class-of .result) (at-class-of .class-of .ensures .0) (at-tell-code .tell-code .ensures) (at-put-digits .put-digits .ensures) refl
 
 pub tell-run-spec : {M : Type 1} → statement M
 tell-run-spec =

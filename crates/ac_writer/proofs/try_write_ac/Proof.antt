@@ -15,11 +15,11 @@ use Rattle.ac_writer.proofs.try_write_ac.Tie as tie
 
 returns : tie.Need-returns
 unfolding writeAc
-returns c = tried-refused (c .refuse .ensures) (rw (sym (c .before .before .in-written-ranges .ensures) ∙ not-true _ (c .before .if1 .taken)))
+returns c = tried-refused (c .refuse .ensures) (rw (sym (c .before .before .writable .ensures) ∙ not-true _ (c .before .if1 .taken)))
 
 -- the counts are good
 counts : (c : tie.Else1) → every (writable (c .before .before .before .before .before .args .plane) (c .before .before .before .before .before .args .blocks)) ≡ true
-counts c = sym (c .before .in-written-ranges .ensures) ∙ not-false _ (c .if1 .left)
+counts c = sym (c .before .writable .ensures) ∙ not-false _ (c .if1 .left)
 
 good : (c : tie.Else1) → Ranged (c .before .before .before .before .before .args .plane) (c .before .before .before .before .before .args .blocks)
 good c = ranged (c .before .before .before .before .before .args .plane) (c .before .before .before .before .before .args .blocks) (counts c)
@@ -45,8 +45,11 @@ tabled c = sym (c .before .good-table .ensures) ∙ not-false _ (c .if3 .left)
 returns-4 : tie.Need-returns-4
 unfolding writeAc
 returns-4 c =
+    let at-i = c .before .before in
+    let at-first-outside = at-i .before .before in
+    let at-if2 = at-first-outside .before .before .before in
     tried-refused (c .refuse4 .ensures)
-    (rw (counts (c .before .before .before .before .before .before .before .before), eq-eqb _ _ (c .before .before .before .before .before .before .before .if2 .left), tabled (c .before .before .before .before .before), sym (c .before .before .before .before .first-outside .ensures) ∙ c .before .before .i .given .1))
+    (rw (counts (c .before .before .before .before .before .before .before .before), eq-eqb _ _ (at-if2 .if2 .left), tabled (c .before .before .before .before .before), sym (at-first-outside .first-outside .ensures) ∙ at-i .i .given .1))
 
 put-all-requires : tie.Need-put-all-requires
 put-all-requires c κs = let r = good (c .before .before .before .before .before .before .before) in (tabled (c .before .before .before .before), (c .before .before .before .before .before .before .if2 .left, omega arith))
@@ -54,7 +57,11 @@ put-all-requires c κs = let r = good (c .before .before .before .before .before
 returns-5 : tie.Need-returns-5
 unfolding writeAc
 returns-5 c =
-    rw (counts (c .before .before .before .before .before .before .before .before .before .before), eq-eqb _ _ (c .before .before .before .before .before .before .before .before .before .if2 .left), tabled (c .before .before .before .before .before .before .before), sym (c .before .before .before .before .before .before .first-outside .ensures) ∙ c .before .before .before .before .enum-told .given .1) (c .before .before .put-all .ensures)
+    let at-put-all = c .before .before in
+    let at-enum-told = at-put-all .before .before in
+    let at-first-outside = at-enum-told .before .before in
+    let at-if2 = at-first-outside .before .before .before in
+    rw (counts (c .before .before .before .before .before .before .before .before .before .before), eq-eqb _ _ (at-if2 .if2 .left), tabled (c .before .before .before .before .before .before .before), sym (at-first-outside .first-outside .ensures) ∙ at-enum-told .enum-told .given .1) (at-put-all .put-all .ensures)
 
 pub try-write-ac-spec : {M : Type 1} → statement M
 try-write-ac-spec =

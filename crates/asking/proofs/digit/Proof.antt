@@ -29,11 +29,21 @@ returns-5 c = simp (le-ltb _ _ (c .before .before .before .before .if1 .left), l
 
 returns-6 : tie.Need-returns-6
 unfolding digit
-returns-6 c = simp (le-ltb _ _ (c .before .before .before .before .before .if1 .left), le-ltb _ _ (c .before .before .before .before .if2 .left), le-ltb _ _ (c .before .before .before .if3 .left), le-ltb _ _ (c .before .before .if4 .left), le-ltb _ _ (c .before .if5 .left), lt-ltb _ _ (c .if6 .taken)) (refl, omega arith)
+returns-6 c =
+    let at-if4 = c .before .before in
+    let at-if3 = at-if4 .before in
+    let at-if2 = at-if3 .before in
+    let at-if1 = at-if2 .before in
+    simp (le-ltb _ _ (at-if1 .if1 .left), le-ltb _ _ (at-if2 .if2 .left), le-ltb _ _ (at-if3 .if3 .left), le-ltb _ _ (at-if4 .if4 .left), le-ltb _ _ (c .before .if5 .left), lt-ltb _ _ (c .if6 .taken)) (refl, omega arith)
 
 returns-7 : tie.Need-returns-7
 unfolding digit
-returns-7 c = simp (le-ltb _ _ (c .before .before .before .before .before .if1 .left), le-ltb _ _ (c .before .before .before .before .if2 .left), le-ltb _ _ (c .before .before .before .if3 .left), le-ltb _ _ (c .before .before .if4 .left), le-ltb _ _ (c .before .if5 .left), le-ltb _ _ (c .if6 .left)) (refl, omega arith)
+returns-7 c =
+    let at-if4 = c .before .before in
+    let at-if3 = at-if4 .before in
+    let at-if2 = at-if3 .before in
+    let at-if1 = at-if2 .before in
+    simp (le-ltb _ _ (at-if1 .if1 .left), le-ltb _ _ (at-if2 .if2 .left), le-ltb _ _ (at-if3 .if3 .left), le-ltb _ _ (at-if4 .if4 .left), le-ltb _ _ (c .before .if5 .left), le-ltb _ _ (c .if6 .left)) (refl, omega arith)
 
 pub digit-spec : {M : Type 1} → statement M
 digit-spec =

@@ -30,11 +30,20 @@ mul-value : tie.Need-mul-value Inv-loop μ-loop
 mul-value c = omega (arith, mul-le-mul-right (c .before .before .before .before .before .before .before .before .args .base) (c .before .before .before .before .if1 .left), c .before .before .before .before .before .before .before .before .pre)
 
 add-value : tie.Need-add-value Inv-loop μ-loop
-add-value c = omega (arith, mul-le-mul-right (c .before .before .before .before .before .before .before .before .args .base) (c .before .before .before .before .if1 .left), c .before .before .before .before .before .before .before .before .pre, c .before .digit .ensures .1)
+add-value c =
+    let at-if1 = c .before .before .before .before in
+    let at-entry = at-if1 .before .before .before .before in
+    omega (arith, mul-le-mul-right (at-entry .args .base) (at-if1 .if1 .left), at-entry .pre, c .before .digit .ensures .1)
 
 loop-again : tie.Need-loop-again Inv-loop μ-loop
-loop-again c = let e : c .before .digit .result ≡ digit (getD (c .before .before .before .before .before .before .before .before .args .word .now) (c .before .before .before .before .before .before .loop .i) 0) = c .before .digit .ensures .0 ∙ ap digit (c .before .before .wide .ensures .0) in
-    (rw e (sym (read-more _ _ _ (c .before .before .before .before .before .before .loop .i) (c .before .before .before .before .before .loop-test .taken) (c .before .before .before .before .if1 .left) (rw (← e) (c .if2 .left))) ∙ c .before .before .before .before .before .before .loop .inv .0), omega (arith, mul-le-mul-right (c .before .before .before .before .before .before .before .before .args .base) (c .before .before .before .before .if1 .left), c .before .before .before .before .before .before .before .before .pre, c .if2 .left))
+loop-again c =
+    let at-wide = c .before .before in
+    let at-if1 = at-wide .before .before in
+    let at-loop-test = at-if1 .before in
+    let at-loop = at-loop-test .before in
+    let at-entry = at-loop .before .before in
+    let e : c .before .digit .result ≡ digit (getD (at-entry .args .word .now) (at-loop .loop .i) 0) = c .before .digit .ensures .0 ∙ ap digit (at-wide .wide .ensures .0) in
+    (rw e (sym (read-more _ _ _ (at-loop .loop .i) (at-loop-test .loop-test .taken) (at-if1 .if1 .left) (rw (← e) (c .if2 .left))) ∙ at-loop .loop .inv .0), omega (arith, mul-le-mul-right (at-entry .args .base) (at-if1 .if1 .left), at-entry .pre, c .if2 .left))
 
 returns-3 : tie.Need-returns-3 Inv-loop μ-loop
 returns-3 c = sym (read-end _ _ _ (drop-of-length-le (c .before .before .before .args .word .now) {i = c .before .loop .i} (omega arith))) ∙ c .before .loop .inv .0

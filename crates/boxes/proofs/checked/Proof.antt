@@ -11,29 +11,59 @@ returns : tie.Need-returns
 returns c = rw (c .not .ensures) (answer-5 _ _ _ (sym (c .before .before .before .scan-all .ensures .0 .agrees) ∙ not-true _ (c .before .if1 .taken)))
 
 returns-2 : tie.Need-returns-2
-returns-2 c = let s = c .before .before .before .before .before .before .before .before .scan-all .ensures .0 in
-    rw (c .not4 .ensures, s .totals) (answer-8 _ _ _ (sym (c .before .before .before .before .before .before .before .before .scan-all .ensures .0 .agrees) ∙ not-false _ (c .before .before .before .before .before .before .if1 .left)) (sym (c .before .before .before .before .before .fault-of .ensures) ∙ c .before .before .before .enum-told .given .1) (λ e. c .before .if2 .taken (s .totals ∙ e ∙ sym (c .before .before .contents .ensures))))
+returns-2 c =
+    let at-contents = c .before .before in
+    let at-enum-told = at-contents .before in
+    let at-fault-of = at-enum-told .before .before in
+    let at-if1 = at-fault-of .before in
+    let at-scan-all = at-if1 .before .before in
+    let s = at-scan-all .scan-all .ensures .0 in
+    rw (c .not4 .ensures, s .totals) (answer-8 _ _ _ (sym (at-scan-all .scan-all .ensures .0 .agrees) ∙ not-false _ (at-if1 .if1 .left)) (sym (at-fault-of .fault-of .ensures) ∙ at-enum-told .enum-told .given .1) (λ e. c .before .if2 .taken (s .totals ∙ e ∙ sym (at-contents .contents .ensures))))
 
 returns-3 : tie.Need-returns-3
-returns-3 c = let s = c .before .before .before .before .before .before .before .before .before .scan-all .ensures .0 in
-    rw (c .not5 .ensures, s .totals) (answer-9 _ _ _ (sym (c .before .before .before .before .before .before .before .before .before .scan-all .ensures .0 .agrees) ∙ not-false _ (c .before .before .before .before .before .before .before .if1 .left)) (sym (c .before .before .before .before .before .before .fault-of .ensures) ∙ c .before .before .before .before .enum-told .given .1) (sym (s .totals) ∙ c .before .before .if2 .left ∙ c .before .before .before .contents .ensures) (omega (arith, s .totals)))
+returns-3 c =
+    let at-if2 = c .before .before in
+    let at-contents = at-if2 .before in
+    let at-enum-told = at-contents .before in
+    let at-fault-of = at-enum-told .before .before in
+    let at-if1 = at-fault-of .before in
+    let at-scan-all = at-if1 .before .before in
+    let s = at-scan-all .scan-all .ensures .0 in
+    rw (c .not5 .ensures, s .totals) (answer-9 _ _ _ (sym (at-scan-all .scan-all .ensures .0 .agrees) ∙ not-false _ (at-if1 .if1 .left)) (sym (at-fault-of .fault-of .ensures) ∙ at-enum-told .enum-told .given .1) (sym (s .totals) ∙ at-if2 .if2 .left ∙ at-contents .contents .ensures) (omega (arith, s .totals)))
 
 returns-4 : tie.Need-returns-4
-returns-4 c = rw (c .not2 .ensures) (answer-6 _ _ _ (sym (c .before .before .before .before .before .before .before .scan-all .ensures .0 .agrees) ∙ not-false _ (c .before .before .before .before .before .if1 .left)) (sym (c .before .before .before .before .fault-of .ensures) ∙ c .before .before .q .given .1))
+returns-4 c =
+    let at-q = c .before .before in
+    let at-fault-of = at-q .before .before in
+    let at-if1 = at-fault-of .before in
+    let at-scan-all = at-if1 .before .before in
+    rw (c .not2 .ensures) (answer-6 _ _ _ (sym (at-scan-all .scan-all .ensures .0 .agrees) ∙ not-false _ (at-if1 .if1 .left)) (sym (at-fault-of .fault-of .ensures) ∙ at-q .q .given .1))
 
 returns-5 : tie.Need-returns-5
-returns-5 c = rw (c .not3 .ensures) (answer-7 _ _ _ (sym (c .before .before .before .before .before .before .before .scan-all .ensures .0 .agrees) ∙ not-false _ (c .before .before .before .before .before .if1 .left)) (sym (c .before .before .before .before .fault-of .ensures) ∙ c .before .before .q2 .given .1))
+returns-5 c =
+    let at-q2 = c .before .before in
+    let at-fault-of = at-q2 .before .before in
+    let at-if1 = at-fault-of .before in
+    let at-scan-all = at-if1 .before .before in
+    rw (c .not3 .ensures) (answer-7 _ _ _ (sym (at-scan-all .scan-all .ensures .0 .agrees) ∙ not-false _ (at-if1 .if1 .left)) (sym (at-fault-of .fault-of .ensures) ∙ at-q2 .q2 .given .1))
 
 returns-6 : tie.Need-returns-6
-returns-6 c = let s = c .before .before .before .before .before .before .before .before .scan-all .ensures .0 in
-    let e = sym (s .totals) ∙ c .before .if2 .left ∙ c .before .before .contents .ensures in
+returns-6 c =
+    let at-contents = c .before .before in
+    let at-enum-told = at-contents .before in
+    let at-fault-of = at-enum-told .before .before in
+    let at-if1 = at-fault-of .before in
+    let at-scan-all = at-if1 .before .before in
+    let at-entry = at-scan-all .before .before in
+    let s = at-scan-all .scan-all .ensures .0 in
+    let e = sym (s .totals) ∙ c .before .if2 .left ∙ at-contents .contents .ensures in
     record {
-      says = answer-0 _ _ _ (sym (c .before .before .before .before .before .before .before .before .scan-all .ensures .0 .agrees) ∙ not-false _ (c .before .before .before .before .before .before .if1 .left)) (sym (c .before .before .before .before .before .fault-of .ensures) ∙ c .before .before .before .enum-told .given .1) e (omega (arith, s .totals));
-      size = answer-size (c .before .before .before .before .before .before .before .before .before .before .args .room) (c .before .before .before .before .before .before .before .before .before .before .args .h) _ (sym (c .before .before .before .before .before .before .before .before .scan-all .ensures .0 .agrees) ∙ not-false _ (c .before .before .before .before .before .before .if1 .left)) (sym (c .before .before .before .before .before .fault-of .ensures) ∙ c .before .before .before .enum-told .given .1) ∙ sym (s .totals);
+      says = answer-0 _ _ _ (sym (at-scan-all .scan-all .ensures .0 .agrees) ∙ not-false _ (at-if1 .if1 .left)) (sym (at-fault-of .fault-of .ensures) ∙ at-enum-told .enum-told .given .1) e (omega (arith, s .totals));
+      size = answer-size (at-entry .args .room) (at-entry .args .h) _ (sym (at-scan-all .scan-all .ensures .0 .agrees) ∙ not-false _ (at-if1 .if1 .left)) (sym (at-fault-of .fault-of .ensures) ∙ at-enum-told .enum-told .given .1) ∙ sym (s .totals);
       fits = omega arith;
       many = s .lengths;
       order = s .orders;
-      once = (sym (c .before .before .before .before .before .fault-of .ensures) ∙ c .before .before .before .enum-told .given .1);
+      once = (sym (at-fault-of .fault-of .ensures) ∙ at-enum-told .enum-told .given .1);
     }
 
 pub checked-spec : {M : Type 1} → statement M

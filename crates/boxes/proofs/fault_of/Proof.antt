@@ -15,7 +15,12 @@ returns-3 : tie.Need-returns-3
 returns-3 c = searched-twice _ _ _ (c .before .before .before .first-twice .ensures) (c .before .q .given .1)
 
 returns-4 : tie.Need-returns-4
-returns-4 c = searched-missing _ _ _ (c .before .before .before .before .before .before .before .before .before .pre .0) (c .before .before .before .before .before .before .first-missing .ensures) (c .before .before .before .before .m .given .1) (c .before .before .first-twice .ensures) (c .enum-told2 .given .1)
+returns-4 c =
+    let at-first-twice = c .before .before in
+    let at-m = at-first-twice .before .before in
+    let at-first-missing = at-m .before .before in
+    let at-entry = at-first-missing .before .before .before in
+    searched-missing _ _ _ (at-entry .pre .0) (at-first-missing .first-missing .ensures) (at-m .m .given .1) (at-first-twice .first-twice .ensures) (c .enum-told2 .given .1)
 
 pub fault-of-spec : {M : Type 1} → statement M
 fault-of-spec =

@@ -13,7 +13,11 @@ returns : tie.Need-returns
 returns c = file-refused _ _ _ _ (sym (c .before .before .before .walk-all .ensures) ∙ c .before .r .given .1)
 
 returns-2 : tie.Need-returns-2
-returns-2 c = rw (c .not .ensures) (file-none _ _ _ _ (sym (c .before .before .before .before .before .before .walk-all .ensures) ∙ c .before .before .before .before .enum-told .given .1) (gone _ _ _ _ (c .before .before .before .next-mine .ensures) (c .before .enum-told2 .given .1)))
+returns-2 c =
+    let at-next-mine = c .before .before .before in
+    let at-enum-told = at-next-mine .before in
+    let at-walk-all = at-enum-told .before .before in
+    rw (c .not .ensures) (file-none _ _ _ _ (sym (at-walk-all .walk-all .ensures) ∙ at-enum-told .enum-told .given .1) (gone _ _ _ _ (at-next-mine .next-mine .ensures) (c .before .enum-told2 .given .1)))
 
 returns-3 : tie.Need-returns-3
 returns-3 c = let a = c .before .before .before .before .before .before .before .before .before .args in

@@ -30,13 +30,22 @@ copy-part-requires : tie.Need-copy-part-requires Inv-loop μ-loop
 copy-part-requires c κs = let m = met _ _ _ _ (c .before .before .before .before .next-mine .ensures) (c .before .before .start .given .1) in (omega arith, payload-turn (c .before .before .before .before .before .loop .inv) m .0)
 
 add-to : tie.Need-add-to Inv-loop μ-loop
-add-to c = let m = met _ _ _ _ (c .before .before .before .before .before .before .before .next-mine .ensures) (c .before .before .before .before .before .start .given .1) in omega (arith, payload-turn (c .before .before .before .before .before .before .before .before .loop .inv) m .0, c .before .before .before .before .before .before .before .before .loop .inv .size)
+add-to c =
+    let at-start = c .before .before .before .before .before in
+    let at-next-mine = at-start .before .before in
+    let at-loop = at-next-mine .before in
+    let m = met _ _ _ _ (at-next-mine .next-mine .ensures) (at-start .start .given .1) in omega (arith, payload-turn (at-loop .loop .inv) m .0, at-loop .loop .inv .size)
 
 loop-less : tie.Need-loop-less Inv-loop μ-loop
 loop-less c = let m = met _ _ _ _ (c .before .before .before .before .before .before .before .next-mine .ensures) (c .before .before .before .before .before .start .given .1) in omega arith
 
 loop-again : tie.Need-loop-again Inv-loop μ-loop
-loop-again c = payload-turn (c .before .before .before .before .before .before .before .before .loop .inv) (met _ _ _ _ (c .before .before .before .before .before .before .before .next-mine .ensures) (c .before .before .before .before .before .start .given .1)) .1 _ (c .before .before .copy-part .ensures)
+loop-again c =
+    let at-copy-part = c .before .before in
+    let at-start = at-copy-part .before .before .before in
+    let at-next-mine = at-start .before .before in
+    let at-loop = at-next-mine .before in
+    payload-turn (at-loop .loop .inv) (met _ _ _ _ (at-next-mine .next-mine .ensures) (at-start .start .given .1)) .1 _ (at-copy-part .copy-part .ensures)
 
 pub put-in-order-spec : {M : Type 1} → statement M
 put-in-order-spec =

@@ -23,18 +23,45 @@ same-length-2 : tie.Need-same-length-2 Inv-loop μ-loop
 same-length-2 c = c .before .before .before .before .before .loop .inv .0 .size
 
 returns : tie.Need-returns Inv-loop μ-loop
-returns c = absurd (place-there (c .before .before .before .before .before .before .before .before .locate .ensures) (c .before .before .before .before .before .before .before .before .before .before .before .before .before .pre) (c .before .before .before .before .before .loop .i) (c .before .before .before .before .loop-test .taken) (search needs) (gone _ _ _ _ (c .before .before .next-mine .ensures) (c .enum-told .given .1)))
+returns c =
+    let at-next-mine = c .before .before in
+    let at-loop-test = at-next-mine .before .before in
+    let at-loop = at-loop-test .before in
+    let at-locate = at-loop .before .before .before in
+    let at-entry = at-locate .before .before .before .before .before in
+    absurd (place-there (at-locate .locate .ensures) (at-entry .pre) (at-loop .loop .i) (at-loop-test .loop-test .taken) (search needs) (gone _ _ _ _ (at-next-mine .next-mine .ensures) (c .enum-told .given .1)))
 
 copy-part-requires : tie.Need-copy-part-requires Inv-loop μ-loop
-copy-part-requires c κs = let m = met _ _ _ _ (c .before .before .before .before .next-mine .ensures) (c .before .before .start .given .1) in (omega arith, window-turn (c .before .before .before .before .before .before .before .before .before .before .locate .ensures) (c .before .before .before .before .before .before .before .before .before .before .before .before .before .before .before .pre) (c .before .before .before .before .before .before .before .loop .i) (c .before .before .before .before .before .before .loop-test .taken) (search needs) (c .before .before .before .before .before .before .before .loop .inv .0) m .0)
+copy-part-requires c κs =
+    let at-start = c .before .before in
+    let at-next-mine = at-start .before .before in
+    let at-loop-test = at-next-mine .before .before in
+    let at-loop = at-loop-test .before in
+    let at-locate = at-loop .before .before .before in
+    let at-entry = at-locate .before .before .before .before .before in
+    let m = met _ _ _ _ (at-next-mine .next-mine .ensures) (at-start .start .given .1) in (omega arith, window-turn (at-locate .locate .ensures) (at-entry .pre) (at-loop .loop .i) (at-loop-test .loop-test .taken) (search needs) (at-loop .loop .inv .0) m .0)
 
 add-end : tie.Need-add-end Inv-loop μ-loop
-add-end c = let m = met _ _ _ _ (c .before .before .before .before .before .before .before .next-mine .ensures) (c .before .before .before .before .before .start .given .1) in
-    let g = c .before .before .before .before .before .before .before .before .before .before .before .before .before .before .before .before .before .before .good in
-    omega (arith, window-turn (c .before .before .before .before .before .before .before .before .before .before .before .before .before .locate .ensures) (c .before .before .before .before .before .before .before .before .before .before .before .before .before .before .before .before .before .before .pre) (c .before .before .before .before .before .before .before .before .before .before .loop .i) (c .before .before .before .before .before .before .before .before .before .loop-test .taken) (search needs) (c .before .before .before .before .before .before .before .before .before .before .loop .inv .0) m .0, c .before .before .before .before .before .before .before .before .before .before .loop .inv .0 .size)
+add-end c =
+    let at-start = c .before .before .before .before .before in
+    let at-next-mine = at-start .before .before in
+    let at-loop-test = at-next-mine .before .before in
+    let at-loop = at-loop-test .before in
+    let at-locate = at-loop .before .before .before in
+    let at-entry = at-locate .before .before .before .before .before in
+    let m = met _ _ _ _ (at-next-mine .next-mine .ensures) (at-start .start .given .1) in
+    omega (arith, at-entry .good, window-turn (at-locate .locate .ensures) (at-entry .pre) (at-loop .loop .i) (at-loop-test .loop-test .taken) (search needs) (at-loop .loop .inv .0) m .0, at-loop .loop .inv .0 .size)
 
 loop-again : tie.Need-loop-again Inv-loop μ-loop
-loop-again c = (window-turn (c .before .before .before .before .before .before .before .before .before .before .before .before .before .locate .ensures) (c .before .before .before .before .before .before .before .before .before .before .before .before .before .before .before .before .before .before .pre) (c .before .before .before .before .before .before .before .before .before .before .loop .i) (c .before .before .before .before .before .before .before .before .before .loop-test .taken) (search needs) (c .before .before .before .before .before .before .before .before .before .before .loop .inv .0) (met _ _ _ _ (c .before .before .before .before .before .before .before .next-mine .ensures) (c .before .before .before .before .before .start .given .1)) .1 _ (c .before .before .copy-part .ensures), omega arith)
+loop-again c =
+    let at-copy-part = c .before .before in
+    let at-start = at-copy-part .before .before .before in
+    let at-next-mine = at-start .before .before in
+    let at-loop-test = at-next-mine .before .before in
+    let at-loop = at-loop-test .before in
+    let at-locate = at-loop .before .before .before in
+    let at-entry = at-locate .before .before .before .before .before in
+    (window-turn (at-locate .locate .ensures) (at-entry .pre) (at-loop .loop .i) (at-loop-test .loop-test .taken) (search needs) (at-loop .loop .inv .0) (met _ _ _ _ (at-next-mine .next-mine .ensures) (at-start .start .given .1)) .1 _ (at-copy-part .copy-part .ensures), omega arith)
 
 same-length-4 : tie.Need-same-length-4 Inv-loop μ-loop
 same-length-4 c = c .before .loop .inv .0 .size

@@ -34,10 +34,18 @@ add-passed : tie.Need-add-passed Inv-loop μ-loop
 add-passed c = omega (arith, c .before .before .before .before .before .before .before .lesser .ensures)
 
 loop-less : tie.Need-loop-less Inv-loop μ-loop
-loop-less c = omega (arith, c .before .before .before .before .before .before .before .lesser .ensures, c .before .before .before .before .before .before .before .before .before .before .before .before .before .pre .0, c .before .before .before .before .before .before .before .before .before .loop .inv .2)
+loop-less c =
+    let at-lesser = c .before .before .before .before .before .before .before in
+    let at-loop = at-lesser .before .before in
+    let at-entry = at-loop .before .before .before .before in
+    omega (arith, at-lesser .lesser .ensures, at-entry .pre .0, at-loop .loop .inv .2)
 
 loop-again : tie.Need-loop-again Inv-loop μ-loop
-loop-again c = (windows-turn _ _ _ (c .before .before .before .before .before .before .before .lesser .result) (c .before .before .before .before .before .before .before .before .before .loop .inv .0) (omega (arith, c .before .before .before .before .before .before .before .lesser .ensures)) .1 _ _ (c .before .before .before .before .put-window .ensures .0) (c .before .before .before .before .put-window .ensures .1), omega (arith, c .before .before .before .before .before .before .before .lesser .ensures), search needs)
+loop-again c =
+    let at-put-window = c .before .before .before .before in
+    let at-lesser = at-put-window .before .before .before in
+    let at-loop = at-lesser .before .before in
+    (windows-turn _ _ _ (at-lesser .lesser .result) (at-loop .loop .inv .0) (omega (arith, at-lesser .lesser .ensures)) .1 _ _ (at-put-window .put-window .ensures .0) (at-put-window .put-window .ensures .1), omega (arith, at-lesser .lesser .ensures), search needs)
 
 same-length : tie.Need-same-length Inv-loop μ-loop
 same-length c = c .before .loop .inv .2

@@ -30,7 +30,12 @@ loop-less : tie.Need-loop-less Inv-loop μ-loop
 loop-less c = let m = met _ _ _ _ (c .before .before .before .before .before .before .next-mine .ensures) (c .before .before .before .before .head .given .1) in omega arith
 
 loop-again : tie.Need-loop-again Inv-loop μ-loop
-loop-again c = pass-turn (c .before .before .before .before .before .before .before .loop .inv) (met _ _ _ _ (c .before .before .before .before .before .before .next-mine .ensures) (c .before .before .before .before .head .given .1)) (c .before .before .alike .ensures) (c .also .ensures)
+loop-again c =
+    let at-alike = c .before .before in
+    let at-head = at-alike .before .before in
+    let at-next-mine = at-head .before .before in
+    let at-loop = at-next-mine .before in
+    pass-turn (at-loop .loop .inv) (met _ _ _ _ (at-next-mine .next-mine .ensures) (at-head .head .given .1)) (at-alike .alike .ensures) (c .also .ensures)
 
 pub scan-all-spec : {M : Type 1} → statement M
 scan-all-spec =

@@ -10,7 +10,12 @@ put-in-order-requires : tie.Need-put-in-order-requires
 put-in-order-requires c κs = order-room (ready-yes _ _ _ (c .before .before .before .before .before .judged .ensures) (c .before .before .before .n .given .1)) (c .before .if1 .taken)
 
 returns : tie.Need-returns
-returns c = order-tried (ready-yes _ _ _ (c .before .before .before .before .before .before .before .before .judged .ensures) (c .before .before .before .before .before .before .n .given .1)) (c .before .before .before .before .if1 .taken) _ _ (c .before .before .put-in-order .ensures)
+returns c =
+    let at-put-in-order = c .before .before in
+    let at-if1 = at-put-in-order .before .before in
+    let at-n = at-if1 .before .before in
+    let at-judged = at-n .before .before in
+    order-tried (ready-yes _ _ _ (at-judged .judged .ensures) (at-n .n .given .1)) (at-if1 .if1 .taken) _ _ (at-put-in-order .put-in-order .ensures)
 
 put-by-number-requires : tie.Need-put-by-number-requires
 put-by-number-requires c κs = number-room (ready-yes _ _ _ (c .before .before .before .before .before .judged .ensures) (c .before .before .before .n .given .1))

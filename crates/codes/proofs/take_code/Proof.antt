@@ -31,7 +31,11 @@ mul-over : tie.Need-mul-over Inv-loop μ-loop
 mul-over c = omega (arith, here-small (c .before .before .before .before .before .loop .inv) (c .before .before .before .before .before .before .before .before .before .pre) (c .before .before .before .before .loop-test .taken))
 
 add-over : tie.Need-add-over Inv-loop μ-loop
-add-over c = omega (arith, bin-small (c .before .t .given .0 .0), here-small (c .before .before .before .before .before .loop .inv) (c .before .before .before .before .before .before .before .before .before .pre) (c .before .before .before .before .loop-test .taken))
+add-over c =
+    let at-loop-test = c .before .before .before .before in
+    let at-loop = at-loop-test .before in
+    let at-entry = at-loop .before .before .before .before in
+    omega (arith, bin-small (c .before .t .given .0 .0), here-small (at-loop .loop .inv) (at-entry .pre) (at-loop-test .loop-test .taken))
 
 returns : tie.Need-returns Inv-loop μ-loop
 unfolding codedOf takenOf

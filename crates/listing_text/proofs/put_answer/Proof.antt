@@ -6,12 +6,20 @@ use borrow.Author.Needs.{needs}
 use Rattle.listing_text.proofs.put_answer.Statement.{statement}
 use Rattle.listing_text.proofs.put_answer.Tie as tie
 
-same-length : tie.Need-same-length
-same-length c = wrote-length (wrote-then (c .before .before .before .before .before .before .before .before .before .before .before .before .before .before .before .before .before .before .put-text .ensures) (wrote-then (c .before .before .before .before .before .before .before .before .before .before .before .before .before .before .put-number .ensures .0) (wrote-then (c .before .before .before .before .before .before .before .before .before .before .put .ensures) (wrote-then (c .before .before .before .before .before .before .put-number2 .ensures .0) (c .before .before .put2 .ensures)))))
-
 returns : tie.Need-returns
 unfolding answer
-returns c = (wrote-then (c .before .before .before .before .before .before .before .before .before .before .before .before .before .before .before .before .before .before .put-text .ensures) (wrote-then (c .before .before .before .before .before .before .before .before .before .before .before .before .before .before .put-number .ensures .0) (wrote-then (c .before .before .before .before .before .before .before .before .before .before .put .ensures) (wrote-then (c .before .before .before .before .before .before .put-number2 .ensures .0) (c .before .before .put2 .ensures)))), omega (arith, c .before .before .before .before .before .before .before .before .before .before .before .before .before .before .before .before .before .before .put-text .ensures .next, c .before .before .before .before .before .before .before .before .before .before .before .before .before .before .put-number .ensures .1, c .before .before .before .before .before .before .before .before .before .before .put .ensures .next, c .before .before .before .before .before .before .put-number2 .ensures .1, c .before .before .put2 .ensures .next))
+returns c =
+    let h = c .before .before in
+    let g = h .before .before .before .before in
+    let f = g .before .before .before .before in
+    let e = f .before .before .before .before in
+    let d = e .before .before .before .before in (
+      wrote-then (d .put-text .ensures) (wrote-then (e .put-number .ensures .0) (wrote-then (f .put .ensures) (wrote-then (g .put-number2 .ensures .0) (h .put2 .ensures)))),
+      omega (arith, d .put-text .ensures .next, e .put-number .ensures .1, f .put .ensures .next, g .put-number2 .ensures .1, h .put2 .ensures .next),
+    )
+
+same-length : tie.Need-same-length
+same-length c = wrote-length (returns c .0)
 
 pub put-answer-spec : {M : Type 1} → statement M
 put-answer-spec =

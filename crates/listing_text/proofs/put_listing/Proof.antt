@@ -12,11 +12,24 @@ returns c = rw (listing-long _ (c .before .before .before .before .if1 .taken)) 
 
 returns-2 : tie.Need-returns-2
 unfolding header
-returns-2 c = rw (listing-refused _ (c .before .before .before .before .before .before .before .before .if1 .left) (sym (c .before .before .before .before .before .before .before .walk-all .ensures) ∙ c .before .before .before .before .before .r .given .1)) (wrote-then (c .before .before .before .before .before .before .before .before .before .before .before .put-text .ensures) (c .before .before .put-answer2 .ensures .0))
+returns-2 c =
+    let at-put-answer2 = c .before .before in
+    let at-r = at-put-answer2 .before .before .before in
+    let at-walk-all = at-r .before .before in
+    let at-if1 = at-walk-all .before in
+    let at-put-text = at-if1 .before .before .before in
+    rw (listing-refused _ (at-if1 .if1 .left) (sym (at-walk-all .walk-all .ensures) ∙ at-r .r .given .1)) (wrote-then (at-put-text .put-text .ensures) (at-put-answer2 .put-answer2 .ensures .0))
 
 returns-3 : tie.Need-returns-3
 unfolding header
-returns-3 c = rw (listing-good _ (c .before .before .before .before .before .before .before .before .before .before .before .if1 .left) (sym (c .before .before .before .before .before .before .before .before .before .before .walk-all .ensures) ∙ c .before .before .before .before .before .before .before .before .enum-told .given .1)) (wrote-then (c .before .before .before .before .before .before .before .before .before .before .before .before .before .before .put-text .ensures) (wrote-then (c .before .before .before .before .before .before .put-lines .ensures .0) (c .before .before .put-answer3 .ensures .0)))
+returns-3 c =
+    let at-put-answer3 = c .before .before in
+    let at-put-lines = at-put-answer3 .before .before .before .before in
+    let at-enum-told = at-put-lines .before .before in
+    let at-walk-all = at-enum-told .before .before in
+    let at-if1 = at-walk-all .before in
+    let at-put-text = at-if1 .before .before .before in
+    rw (listing-good _ (at-if1 .if1 .left) (sym (at-walk-all .walk-all .ensures) ∙ at-enum-told .enum-told .given .1)) (wrote-then (at-put-text .put-text .ensures) (wrote-then (at-put-lines .put-lines .ensures .0) (at-put-answer3 .put-answer3 .ensures .0)))
 
 pub put-listing-spec : {M : Type 1} → statement M
 put-listing-spec =

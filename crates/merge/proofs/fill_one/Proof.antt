@@ -22,7 +22,10 @@ mul-destination : tie.Need-mul-destination Inv-loop μ-loop
 mul-destination c = omega (arith, c .before .before .before .before .before .pre .0 .ranged .pixels-few)
 
 slice-write-destination : tie.Need-slice-write-destination Inv-loop μ-loop
-slice-write-destination c = omega (arith, c .before .before .loop .inv .spread .long, c .before .before .before .before .before .pre .1 .1, ap (λ k. k * c .before .before .before .before .before .args .pixels) (c .before .before .before .before .before .pre .1 .0))
+slice-write-destination c =
+    let at-loop = c .before .before in
+    let at-entry = at-loop .before .before .before in
+    omega (arith, at-loop .loop .inv .spread .long, at-entry .pre .1 .1, ap (λ k. k * at-entry .args .pixels) (at-entry .pre .1 .0))
 
 loop-again : tie.Need-loop-again Inv-loop μ-loop
 loop-again c = filling-one _ _ _ _ _ _ (c .before .before .loop .inv) (c .before .before .before .before .before .pre .1 .1) (c .before .before .before .before .before .pre .1 .0) (c .before .loop-test .taken) (c .one-at .result) (c .one-at .ensures)

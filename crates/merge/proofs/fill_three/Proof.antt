@@ -53,7 +53,10 @@ slice-write-destination-3 : tie.Need-slice-write-destination-3 Inv-loop μ-loop
 slice-write-destination-3 c = let h = roomy c in simp length-set (omega arith)
 
 loop-again : tie.Need-loop-again Inv-loop μ-loop
-loop-again c = filling-three _ _ _ _ _ _ (c .before .before .loop .inv) (c .before .before .before .before .before .pre .1 .1) (c .before .before .before .before .before .pre .1 .0) (c .before .loop-test .taken) (c .three-at .result .first) (c .three-at .result .second) (c .three-at .result .third) (c .three-at .ensures)
+loop-again c =
+    let at-loop = c .before .before in
+    let at-entry = at-loop .before .before .before in
+    filling-three _ _ _ _ _ _ (at-loop .loop .inv) (at-entry .pre .1 .1) (at-entry .pre .1 .0) (c .before .loop-test .taken) (c .three-at .result .first) (c .three-at .result .second) (c .three-at .result .third) (c .three-at .ensures)
 
 same-length : tie.Need-same-length Inv-loop μ-loop
 same-length c = filling-long _ _ _ _ _ _ (c .before .loop .inv) (c .before .before .before .before .pre .1 .1)

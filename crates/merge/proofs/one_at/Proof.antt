@@ -30,7 +30,9 @@ added-requires c κs =
     rw (back w64 (b .result) (b .ok), back w64 (r .result) (r .ok)) (c .before .before .before .before .before .before .before .pre .0 .ranged .rb-small, (omega (arith, b .ensures .1), omega (arith, r .ensures .1)))
 
 -- steps 1 to 3 of the pixel
-based : (c : tie.After-basis-one) → single (c .basis-one .result) ≡ basis (c .before .before .before .args .s) (c .before .before .before .args .table .now) (single (getD (c .before .before .before .args .base .now) (c .before .before .before .args .p) (pos 0)))
+based : (c : tie.After-basis-one) →
+    let a = c .before .before .before .args in
+    single (c .basis-one .result) ≡ basis (a .s) (a .table .now) (single (getD (a .base .now) (a .p) (pos 0)))
 based c =
     let a = c .before .before .before .args in
     c .basis-one .ensures .0 ∙ ap (λ z. basis (a .s) (a .table .now) (single z)) (back w32 (getD (a .base .now) (a .p) (pos 0)) (c .before .basis-one-arg .given))

@@ -1,12 +1,13 @@
 -- `merge::three_at` meets its contract. Assumes nothing.
 use borrow.Author.Needs.{needs}
 use mathlib.Core.Path.{_≡_, _∙_}
-use Prim.Native.Nat.{_+_}
-use lib.IntN.{pos}
+use mathlib.Core.List.{List}
+use Prim.Native.Nat.{ℕ, _+_}
+use lib.IntN.{ℤ, pos}
 use lib.ListN.{getD}
 use mir.Syntax.{w32}
 use Rattle.laws.proofs.Integers.{back}
-use Rattle.pixel.specs.Pixels.{triple, threeOf}
+use Rattle.pixel.specs.Pixels.{Pixel, triple, threeOf}
 use Rattle.pixel.specs.Steps.{basis, stepFour}
 use Rattle.merge.proofs.Laws.{in-first, in-second, in-third, three-alone, three-added}
 use Rattle.merge.proofs.three_at.Statement.{statement}
@@ -42,8 +43,14 @@ shared-slice-copy-out-residual-three-3 c =
     let s = c .before .before .before .before .before .before .before .before .before in
     in-third (s .args .s) (s .args .pixels) (s .args .p) (s .pre .0 .residual-long (c .before .before .enum-told2 .given .1)) (s .pre .1 .0) (s .pre .1 .1)
 
+-- the three numbers of a pixel in a lent slice
+abbrev planar : List ℤ → ℕ → ℕ → Pixel ℤ
+planar x pixels p = triple (getD x p (pos 0)) (getD x (pixels + p) (pos 0)) (getD x (pixels + pixels + p) (pos 0))
+
 -- steps 1 to 3 of the pixel
-based : (c : tie.After-basis-three) → threeOf (c .basis-three .result) ≡ basis (c .before .before .before .before .before .args .s) (c .before .before .before .before .before .args .table .now) (triple (getD (c .before .before .before .before .before .args .base .now) (c .before .before .before .before .before .args .p) (pos 0)) (getD (c .before .before .before .before .before .args .base .now) (c .before .before .before .before .before .args .pixels + c .before .before .before .before .before .args .p) (pos 0)) (getD (c .before .before .before .before .before .args .base .now) (c .before .before .before .before .before .args .pixels + c .before .before .before .before .before .args .pixels + c .before .before .before .before .before .args .p) (pos 0)))
+based : (c : tie.After-basis-three) →
+    let a = c .before .before .before .before .before .args in
+    threeOf (c .basis-three .result) ≡ basis (a .s) (a .table .now) (planar (a .base .now) (a .pixels) (a .p))
 based c =
     let a = c .before .before .before .before .before .args in
     let x = a .base .now in
@@ -51,7 +58,9 @@ based c =
     ∙ rw (back w32 (getD x (a .p) (pos 0)) (c .before .before .before .basis-three-arg .given), back w32 (getD x (a .pixels + a .p) (pos 0)) (c .before .before .basis-three-arg2 .given), back w32 (getD x (a .pixels + a .pixels + a .p) (pos 0)) (c .before .basis-three-arg3 .given))
 
 -- step 4 of the pixel
-four : (c : tie.After-residual-three) → threeOf (c .residual-three .result) ≡ stepFour (c .before .before .before .before .before .before .before .before .before .before .before .args .s) (triple (getD (c .before .before .before .before .before .before .before .before .before .before .before .args .residual .now) (c .before .before .before .before .before .before .before .before .before .before .before .args .p) (pos 0)) (getD (c .before .before .before .before .before .before .before .before .before .before .before .args .residual .now) (c .before .before .before .before .before .before .before .before .before .before .before .args .pixels + c .before .before .before .before .before .before .before .before .before .before .before .args .p) (pos 0)) (getD (c .before .before .before .before .before .before .before .before .before .before .before .args .residual .now) (c .before .before .before .before .before .before .before .before .before .before .before .args .pixels + c .before .before .before .before .before .before .before .before .before .before .before .args .pixels + c .before .before .before .before .before .before .before .before .before .before .before .args .p) (pos 0)))
+four : (c : tie.After-residual-three) →
+    let a = c .before .before .before .before .before .before .before .before .before .before .before .args in
+    threeOf (c .residual-three .result) ≡ stepFour (a .s) (planar (a .residual .now) (a .pixels) (a .p))
 four c =
     let a = c .before .before .before .before .before .before .before .before .before .before .before .args in
     let x = a .residual .now in
@@ -68,12 +77,14 @@ returns c =
 
 returns-2 : tie.Need-returns-2
 returns-2 c =
+    let at-enum-told2 = c .before .before .before .before .before in
+    let at-basis-three = at-enum-told2 .before .before in
     let s = c .before .before .before .before .before .before .before .before .before .before .before .before in
-    let b = c .before .before .before .before .before .before .before .basis-three in
+    let b = at-basis-three .basis-three in
     let r = c .before .residual-three in
     let a = s .args in
     c .added-three .ensures
-    ∙ three-added (a .s) (a .pixels) (a .base .now) (a .residual .now) (a .table .now) (a .p) (s .pre .1 .0) (threeOf (b .result)) (based (c .before .before .before .before .before .before .before)) (threeOf (r .result)) (four (c .before)) (c .before .before .before .before .before .enum-told2 .given .1)
+    ∙ three-added (a .s) (a .pixels) (a .base .now) (a .residual .now) (a .table .now) (a .p) (s .pre .1 .0) (threeOf (b .result)) (based at-basis-three) (threeOf (r .result)) (four (c .before)) (at-enum-told2 .enum-told2 .given .1)
 
 pub three-at-spec : {M : Type 1} → statement M
 three-at-spec =

@@ -56,7 +56,9 @@ lengths-right-requires : tie.Need-lengths-right-requires
 lengths-right-requires c κs = in-range c
 
 returns-4 : tie.Need-returns-4
-returns-4 c = tried-refused (c .refuse4 .ensures) (no-lengths _ _ _ _ _ _ (passed-1 (c .before .before .before .before .before .before .before)) (passed-2 (c .before .before .before .before .before)) (passed-3 (c .before .before .before)) (sym (c .before .before .lengths-right .ensures) ∙ not-true _ (c .before .if4 .taken)))
+returns-4 c =
+    let at-lengths-right = c .before .before in
+    tried-refused (c .refuse4 .ensures) (no-lengths _ _ _ _ _ _ (passed-1 (c .before .before .before .before .before .before .before)) (passed-2 (c .before .before .before .before .before)) (passed-3 (c .before .before .before)) (sym (at-lengths-right .lengths-right .ensures) ∙ not-true _ (c .before .if4 .taken)))
 
 top-of-requires : tie.Need-top-of-requires
 top-of-requires c κs = in-range (c .before .before) .rb-small
@@ -70,8 +72,9 @@ searched c =
 returns-5 : tie.Need-returns-5
 unfolding start
 returns-5 c =
+    let at-large = c .before .before in
     let l = c .before .before .before .before in
-    tried-refused (c .refuse5 .ensures) (too-large _ _ _ _ _ _ (passed-1 (l .before .before .before .before .before .before .before .before)) (passed-2 (l .before .before .before .before .before .before)) (passed-3 (l .before .before .before .before)) (passed-4 (l .before .before)) _ (searched l ∙ c .before .before .large .given .1))
+    tried-refused (c .refuse5 .ensures) (too-large _ _ _ _ _ _ (passed-1 (l .before .before .before .before .before .before .before .before)) (passed-2 (l .before .before .before .before .before .before)) (passed-3 (l .before .before .before .before)) (passed-4 (l .before .before)) _ (searched l ∙ at-large .large .given .1))
 
 mul-count : tie.Need-mul-count
 unfolding start
@@ -83,8 +86,9 @@ mul-count c =
 returns-6 : tie.Need-returns-6
 unfolding start
 returns-6 c =
+    let at-enum-told = c .before .before .before in
     let l = c .before .before .before .before .before in
-    tried-refused (c .refuse6 .ensures) (no-room _ _ _ _ _ _ (passed-1 (l .before .before .before .before .before .before .before .before)) (passed-2 (l .before .before .before .before .before .before)) (passed-3 (l .before .before .before .before)) (passed-4 (l .before .before)) (searched l ∙ c .before .before .before .enum-told .given .1) (c .before .if5 .taken))
+    tried-refused (c .refuse6 .ensures) (no-room _ _ _ _ _ _ (passed-1 (l .before .before .before .before .before .before .before .before)) (passed-2 (l .before .before .before .before .before .before)) (passed-3 (l .before .before .before .before)) (passed-4 (l .before .before)) (searched l ∙ at-enum-told .enum-told .given .1) (c .before .if5 .taken))
 
 fill-one-requires : tie.Need-fill-one-requires
 unfolding start
@@ -93,11 +97,14 @@ fill-one-requires c κs = (lent (c .before .before .before .before .before .befo
 returns-7 : tie.Need-returns-7
 unfolding start
 returns-7 c =
+    let at-fill-one = c .before .before in
+    let at-if5 = at-fill-one .before .before .before .before in
+    let at-enum-told = at-if5 .before .before in
     let l = c .before .before .before .before .before .before .before .before .before .before in
     let a = start (l .before .before) .args in
     let long = picture-long (a .s) (a .pixels) (a .base .now) (a .residual .now) (a .table .now) (length (a .destination .now)) in
-    tried-given (ap Given (sym long)) (all-right _ _ _ _ _ _ (passed-1 (l .before .before .before .before .before .before .before .before)) (passed-2 (l .before .before .before .before .before .before)) (passed-3 (l .before .before .before .before)) (passed-4 (l .before .before)) (searched l ∙ c .before .before .before .before .before .before .before .before .enum-told .given .1) (c .before .before .before .before .before .before .if5 .left))
-    (c .before .before .fill-one .ensures ∙ ap (λ k. picture (a .s) (a .pixels) (a .base .now) (a .residual .now) (a .table .now) ++ drop k (a .destination .now)) (sym long))
+    tried-given (ap Given (sym long)) (all-right _ _ _ _ _ _ (passed-1 (l .before .before .before .before .before .before .before .before)) (passed-2 (l .before .before .before .before .before .before)) (passed-3 (l .before .before .before .before)) (passed-4 (l .before .before)) (searched l ∙ at-enum-told .enum-told .given .1) (at-if5 .if5 .left))
+    (at-fill-one .fill-one .ensures ∙ ap (λ k. picture (a .s) (a .pixels) (a .base .now) (a .residual .now) (a .table .now) ++ drop k (a .destination .now)) (sym long))
 
 three : (c : tie.Else4) → (start c .args .s .components ≡ 1 → ⊥) → start c .args .s .components ≡ 3
 unfolding start
@@ -110,11 +117,14 @@ fill-three-requires c κs = (lent (c .before .before .before .before .before .be
 returns-8 : tie.Need-returns-8
 unfolding start
 returns-8 c =
+    let at-fill-three = c .before .before in
+    let at-if5 = at-fill-three .before .before .before .before in
+    let at-enum-told = at-if5 .before .before in
     let l = c .before .before .before .before .before .before .before .before .before .before in
     let a = start (l .before .before) .args in
     let long = picture-long (a .s) (a .pixels) (a .base .now) (a .residual .now) (a .table .now) (length (a .destination .now)) in
-    tried-given (ap Given (sym long)) (all-right _ _ _ _ _ _ (passed-1 (l .before .before .before .before .before .before .before .before)) (passed-2 (l .before .before .before .before .before .before)) (passed-3 (l .before .before .before .before)) (passed-4 (l .before .before)) (searched l ∙ c .before .before .before .before .before .before .before .before .enum-told .given .1) (c .before .before .before .before .before .before .if5 .left))
-    (c .before .before .fill-three .ensures ∙ ap (λ k. picture (a .s) (a .pixels) (a .base .now) (a .residual .now) (a .table .now) ++ drop k (a .destination .now)) (sym long))
+    tried-given (ap Given (sym long)) (all-right _ _ _ _ _ _ (passed-1 (l .before .before .before .before .before .before .before .before)) (passed-2 (l .before .before .before .before .before .before)) (passed-3 (l .before .before .before .before)) (passed-4 (l .before .before)) (searched l ∙ at-enum-told .enum-told .given .1) (at-if5 .if5 .left))
+    (at-fill-three .fill-three .ensures ∙ ap (λ k. picture (a .s) (a .pixels) (a .base .now) (a .residual .now) (a .table .now) ++ drop k (a .destination .now)) (sym long))
 
 pub try-merge-spec : {M : Type 1} → statement M
 try-merge-spec =

@@ -27,19 +27,31 @@ returns : tie.Need-returns Inv-loop μ-loop
 returns c = gather-end (c .before .before .before .loop .inv) (numbers-gone _ _ _ _ (gone _ _ _ _ (c .before .before .next-mine .ensures) (c .enum-told .given .1)))
 
 slice-write-held : tie.Need-slice-write-held Inv-loop μ-loop
-slice-write-held c = let m = met _ _ _ _ (c .before .before .before .before .before .next-mine .ensures) (c .before .before .before .head .given .1) in gather-room (c .before .before .before .before .before .before .loop .inv) (numbers-met m) (sym (c .before .within .ensures) ∙ c .if1 .taken)
+slice-write-held c =
+    let at-head = c .before .before .before in
+    let at-next-mine = at-head .before .before in
+    let at-loop = at-next-mine .before in
+    let m = met _ _ _ _ (at-next-mine .next-mine .ensures) (at-head .head .given .1) in gather-room (at-loop .loop .inv) (numbers-met m) (sym (c .before .within .ensures) ∙ c .if1 .taken)
 
 loop-less : tie.Need-loop-less Inv-loop μ-loop
 loop-less c = let m = met _ _ _ _ (c .before .before .before .before .before .next-mine .ensures) (c .before .before .before .head .given .1) in omega arith
 
 loop-again : tie.Need-loop-again Inv-loop μ-loop
-loop-again c = let m = met _ _ _ _ (c .before .before .before .before .before .next-mine .ensures) (c .before .before .before .head .given .1) in gather-here (c .before .before .before .before .before .before .loop .inv) (numbers-met m) (sym (c .before .within .ensures) ∙ c .if1 .taken)
+loop-again c =
+    let at-head = c .before .before .before in
+    let at-next-mine = at-head .before .before in
+    let at-loop = at-next-mine .before in
+    let m = met _ _ _ _ (at-next-mine .next-mine .ensures) (at-head .head .given .1) in gather-here (at-loop .loop .inv) (numbers-met m) (sym (c .before .within .ensures) ∙ c .if1 .taken)
 
 loop-less-2 : tie.Need-loop-less-2 Inv-loop μ-loop
 loop-less-2 c = let m = met _ _ _ _ (c .before .before .before .before .before .next-mine .ensures) (c .before .before .before .head .given .1) in omega arith
 
 loop-again-2 : tie.Need-loop-again-2 Inv-loop μ-loop
-loop-again-2 c = let m = met _ _ _ _ (c .before .before .before .before .before .next-mine .ensures) (c .before .before .before .head .given .1) in gather-other (c .before .before .before .before .before .before .loop .inv) (numbers-met m) (sym (c .before .within .ensures) ∙ c .if1 .left)
+loop-again-2 c =
+    let at-head = c .before .before .before in
+    let at-next-mine = at-head .before .before in
+    let at-loop = at-next-mine .before in
+    let m = met _ _ _ _ (at-next-mine .next-mine .ensures) (at-head .head .given .1) in gather-other (at-loop .loop .inv) (numbers-met m) (sym (c .before .within .ensures) ∙ c .if1 .left)
 
 pub gather-spec : {M : Type 1} → statement M
 gather-spec =

@@ -19,11 +19,23 @@ returns-3 c = simp (← c .before .before .before .before .past-ones .ensures, l
 
 returns-4 : tie.Need-returns-4
 unfolding stepAt markedAt
-returns-4 c = simp (← c .before .before .before .before .before .before .before .past-ones .ensures, lt-leb _ _ (c .before .before .before .before .before .before .if1 .left), lt-leb _ _ (c .before .before .before .before .before .if2 .left), ne-eqb _ _ (c .before .before .before .if3 .left), ← c .before .before .barred .ensures, c .before .if4 .taken) (c .broken3 .ensures)
+returns-4 c =
+    let at-barred = c .before .before in
+    let at-if3 = at-barred .before in
+    let at-if2 = at-if3 .before .before in
+    let at-if1 = at-if2 .before in
+    let at-past-ones = at-if1 .before in
+    simp (← at-past-ones .past-ones .ensures, lt-leb _ _ (at-if1 .if1 .left), lt-leb _ _ (at-if2 .if2 .left), ne-eqb _ _ (at-if3 .if3 .left), ← at-barred .barred .ensures, c .before .if4 .taken) (c .broken3 .ensures)
 
 returns-5 : tie.Need-returns-5
 unfolding stepAt markedAt
-returns-5 c = simp (← c .before .before .before .before .before .before .before .past-ones .ensures, lt-leb _ _ (c .before .before .before .before .before .before .if1 .left), lt-leb _ _ (c .before .before .before .before .before .if2 .left), ne-eqb _ _ (c .before .before .before .if3 .left), ← c .before .before .barred .ensures, c .before .if4 .left) (c .sized-at .ensures)
+returns-5 c =
+    let at-barred = c .before .before in
+    let at-if3 = at-barred .before in
+    let at-if2 = at-if3 .before .before in
+    let at-if1 = at-if2 .before in
+    let at-past-ones = at-if1 .before in
+    simp (← at-past-ones .past-ones .ensures, lt-leb _ _ (at-if1 .if1 .left), lt-leb _ _ (at-if2 .if2 .left), ne-eqb _ _ (at-if3 .if3 .left), ← at-barred .barred .ensures, c .before .if4 .left) (c .sized-at .ensures)
 
 pub step-at-spec : {M : Type 1} → statement M
 step-at-spec =

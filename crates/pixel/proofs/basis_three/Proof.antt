@@ -29,7 +29,9 @@ matrixed-requires c κs =
     (record { first-small = f .ensures .1; second-small = g .ensures .1; third-small = h .ensures .1 })
 
 -- step 1 before its clip
-recoloured : (c : tie.After-recolour) → threeOf (c .recolour .result) ≡ recolour (c .before .before .before .before .before .before .args .s .«base_transform») (firstCentre (c .before .before .before .before .before .before .args .s .rh)) (triple (c .before .before .before .before .before .before .args .y) (c .before .before .before .before .before .before .args .cb) (c .before .before .before .before .before .before .args .cr))
+recoloured : (c : tie.After-recolour) →
+    let a = c .before .before .before .before .before .before .args in
+    threeOf (c .recolour .result) ≡ recolour (a .s .«base_transform») (firstCentre (a .s .rh)) (triple (a .y) (a .cb) (a .cr))
 recoloured c =
     let s = c .before .before .before .before .before .before in
     let f = c .before .before .before .before .wide in

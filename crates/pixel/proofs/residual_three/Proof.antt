@@ -12,10 +12,13 @@ use Rattle.pixel.proofs.residual_three.Tie as tie
 returns : tie.Need-returns
 unfolding stepFour each
 returns c =
+    let at-scaled3 = c .before .before in
+    let at-scaled2 = at-scaled3 .before in
+    let at-scaled = at-scaled2 .before in
     let s = c .before .before .before .before .before in
-    let f = c .before .before .before .before .scaled in
-    let g = c .before .before .before .scaled2 in
-    let h = c .before .before .scaled3 in
+    let f = at-scaled .scaled in
+    let g = at-scaled2 .scaled2 in
+    let h = at-scaled3 .scaled3 in
     let m = c .before .centre-of in
     (c .recolour .ensures .0 ∙ rw (back w64 (f .result) (f .ok), back w64 (g .result) (g .ok), back w64 (h .result) (h .ok), back w64 (m .result) (m .ok), f .ensures .0, g .ensures .0, h .ensures .0, m .ensures .0, toZ-ofZ (s .fits .a), toZ-ofZ (s .fits .b), toZ-ofZ (s .fits .c)), c .recolour .ensures .1)
 

@@ -16,11 +16,11 @@ use Rattle.planes.proofs.try_read_dc.Tie as tie
 
 returns : tie.Need-returns
 unfolding readDc
-returns c = tried-refused (c .refuse .ensures) (rw (sym (c .before .before .in-ranges .ensures) ∙ not-true _ (c .before .if1 .taken)))
+returns c = tried-refused (c .refuse .ensures) (rw (sym (c .before .before .readable .ensures) ∙ not-true _ (c .before .if1 .taken)))
 
 -- the counts are good
 counts : (c : tie.Else1) → every (readable (c .before .before .before .args .plane) (c .before .before .before .args .blocks)) ≡ true
-counts c = sym (c .before .in-ranges .ensures) ∙ not-false _ (c .if1 .left)
+counts c = sym (c .before .readable .ensures) ∙ not-false _ (c .if1 .left)
 
 good : (c : tie.Else1) → Ranged (c .before .before .before .args .plane) (c .before .before .before .args .blocks)
 good c = ranged (c .before .before .before .args .plane) (c .before .before .before .args .blocks) (counts c)

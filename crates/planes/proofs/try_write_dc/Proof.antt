@@ -16,11 +16,11 @@ use Rattle.planes.proofs.try_write_dc.Tie as tie
 
 returns : tie.Need-returns
 unfolding writeDc
-returns c = tried-refused (c .refuse .ensures) (rw (sym (c .before .before .in-written-ranges .ensures) ∙ not-true _ (c .before .if1 .taken)))
+returns c = tried-refused (c .refuse .ensures) (rw (sym (c .before .before .writable .ensures) ∙ not-true _ (c .before .if1 .taken)))
 
 -- the counts are good
 counts : (c : tie.Else1) → every (writable (c .before .before .before .args .plane) (c .before .before .before .args .blocks)) ≡ true
-counts c = sym (c .before .in-written-ranges .ensures) ∙ not-false _ (c .if1 .left)
+counts c = sym (c .before .writable .ensures) ∙ not-false _ (c .if1 .left)
 
 good : (c : tie.Else1) → Ranged (c .before .before .before .args .plane) (c .before .before .before .args .blocks)
 good c = ranged (c .before .before .before .args .plane) (c .before .before .before .args .blocks) (counts c)

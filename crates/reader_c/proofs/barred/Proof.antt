@@ -24,25 +24,28 @@ returns-3 c =
 returns-4 : tie.Need-returns-4
 unfolding barred every
 returns-4 c =
+    let at-entry = c .before .before .before .before .before .before .before in
     let d = c .before .before in
     let b = d .before .before in
-    rw (not-false (c .before .before .before .before .before .before .before .args .named) (b .before .before .if1 .left), sym (b .before .in-ranges .ensures) ∙ not-false _ (b .if2 .left), sym (d .before .plain .ensures) ∙ not-false _ (d .if3 .left), sym (c .before .srgb-allowed .ensures) ∙ not-true _ (c .if4 .taken))
+    rw (not-false (at-entry .args .named) (b .before .before .if1 .left), sym (b .before .in-ranges .ensures) ∙ not-false _ (b .if2 .left), sym (d .before .plain .ensures) ∙ not-false _ (d .if3 .left), sym (c .before .srgb-allowed .ensures) ∙ not-true _ (c .if4 .taken))
 
 returns-5 : tie.Need-returns-5
 unfolding barred every
 returns-5 c =
+    let at-entry = c .before .before .before .before .before .before .before .before .before in
     let e = c .before .before in
     let d = e .before .before in
     let b = d .before .before in
-    rw (not-false (c .before .before .before .before .before .before .before .before .before .args .named) (b .before .before .if1 .left), sym (b .before .in-ranges .ensures) ∙ not-false _ (b .if2 .left), sym (d .before .plain .ensures) ∙ not-false _ (d .if3 .left), sym (e .before .srgb-allowed .ensures) ∙ not-false _ (e .if4 .left), ← (c .before .matrix-count .ensures), ne-eqb _ _ (c .if5 .taken))
+    rw (not-false (at-entry .args .named) (b .before .before .if1 .left), sym (b .before .in-ranges .ensures) ∙ not-false _ (b .if2 .left), sym (d .before .plain .ensures) ∙ not-false _ (d .if3 .left), sym (e .before .srgb-allowed .ensures) ∙ not-false _ (e .if4 .left), ← (c .before .matrix-count .ensures), ne-eqb _ _ (c .if5 .taken))
 
 returns-6 : tie.Need-returns-6
 unfolding barred every
 returns-6 c =
+    let at-entry = c .before .before .before .before .before .before .before .before .before in
     let e = c .before .before in
     let d = e .before .before in
     let b = d .before .before in
-    rw (not-false (c .before .before .before .before .before .before .before .before .before .args .named) (b .before .before .if1 .left), sym (b .before .in-ranges .ensures) ∙ not-false _ (b .if2 .left), sym (d .before .plain .ensures) ∙ not-false _ (d .if3 .left), sym (e .before .srgb-allowed .ensures) ∙ not-false _ (e .if4 .left), ← (c .before .matrix-count .ensures), eq-eqb _ _ (c .if5 .left))
+    rw (not-false (at-entry .args .named) (b .before .before .if1 .left), sym (b .before .in-ranges .ensures) ∙ not-false _ (b .if2 .left), sym (d .before .plain .ensures) ∙ not-false _ (d .if3 .left), sym (e .before .srgb-allowed .ensures) ∙ not-false _ (e .if4 .left), ← (c .before .matrix-count .ensures), eq-eqb _ _ (c .if5 .left))
 
 pub barred-spec : {M : Type 1} → statement M
 barred-spec =

@@ -7,10 +7,11 @@ use Rattle.reader_c.proofs.xt_merge.Tie as tie
 returns : tie.Need-returns
 unfolding settingOf
 returns c =
+    let at-merge-or-not = c .before .before in
     let k = c .before .before .before .before in
     let a = k .before in
     rw (← (a .colour2 .ensures), ← (a .before .before .before .before .before .colour .ensures), ← (a .before .before .before .before .curve-of .ensures), ← (a .before .before .before .matrix-of .ensures), ← (a .before .before .weights-of .ensures), ← (a .before .residual-of .ensures), ← (k .known .ensures))
-    (c .before .before .merge-or-not .ensures)
+    (at-merge-or-not .merge-or-not .ensures)
 
 pub xt-merge-spec : {M : Type 1} → statement M
 xt-merge-spec =

@@ -28,7 +28,7 @@ loop-less c = omega (arith, reading-long (c .before .before .before .before .loo
 loop-again : tie.Need-loop-again Inv-loop μ-loop
 loop-again c =
     let b = c .before .before .before .before .before .before .args .bytes .now in
-    reading-turn (c .before .before .before .before .loop .inv) (omega (arith, reading-long (c .before .before .before .before .loop .inv))) (back w32 (c .before .signed .result) (c .before .signed .ok) ∙ c .before .signed .ensures ∙ ap lowered (c .before .before .number-at .ensures .0))
+    reading-turn (c .before .before .before .before .loop .inv) (omega (arith, reading-long (c .before .before .before .before .loop .inv))) (back w32 (c .before .lowered .result) (c .before .lowered .ok) ∙ c .before .lowered .ensures ∙ ap lowered (c .before .before .number-at .ensures .0))
     (λ k. rw (c .past .ensures) (on-later (λ p. lowered (numberAt b p)) (lowered 0) (length b) (c .before .before .before .before .loop .next) 4 (4 * k) (λ p h. ap lowered (number-behind b p h))))
 
 same-length : tie.Need-same-length Inv-loop μ-loop

@@ -18,11 +18,22 @@ returns-2 c = rw (eq-eqb (c .before .before .before .before .args .s .components
 
 returns-3 : tie.Need-returns-3
 unfolding plain
-returns-3 c = rw (eq-eqb (c .before .before .before .before .before .before .args .s .components) 1 (c .before .before .before .before .if1 .left)) (sym (every-pass _ _ (ap not (sym (c .before .before .before .is-transform .ensures) ∙ c .before .before .if2 .left)) ∙ every-stop _ _ (ap not (sym (c .before .is-transform2 .ensures) ∙ c .if3 .taken))))
+returns-3 c =
+    let at-if2 = c .before .before in
+    let at-is-transform = at-if2 .before in
+    let at-if1 = at-is-transform .before in
+    let at-entry = at-if1 .before .before in
+    rw (eq-eqb (at-entry .args .s .components) 1 (at-if1 .if1 .left)) (sym (every-pass _ _ (ap not (sym (at-is-transform .is-transform .ensures) ∙ at-if2 .if2 .left)) ∙ every-stop _ _ (ap not (sym (c .before .is-transform2 .ensures) ∙ c .if3 .taken))))
 
 returns-4 : tie.Need-returns-4
 unfolding plain
-returns-4 c = rw (eq-eqb (c .before .before .before .before .before .before .before .args .s .components) 1 (c .before .before .before .before .before .if1 .left)) (ap not (c .is-on .ensures) ∙ sym (every-pass _ _ (ap not (sym (c .before .before .before .before .is-transform .ensures) ∙ c .before .before .before .if2 .left)) ∙ every-pass _ _ (ap not (sym (c .before .before .is-transform2 .ensures) ∙ c .before .if3 .left)) ∙ every-last _))
+returns-4 c =
+    let at-is-transform2 = c .before .before in
+    let at-if2 = at-is-transform2 .before in
+    let at-is-transform = at-if2 .before in
+    let at-if1 = at-is-transform .before in
+    let at-entry = at-if1 .before .before in
+    rw (eq-eqb (at-entry .args .s .components) 1 (at-if1 .if1 .left)) (ap not (c .is-on .ensures) ∙ sym (every-pass _ _ (ap not (sym (at-is-transform .is-transform .ensures) ∙ at-if2 .if2 .left)) ∙ every-pass _ _ (ap not (sym (at-is-transform2 .is-transform2 .ensures) ∙ c .before .if3 .left)) ∙ every-last _))
 
 pub plain-spec : {M : Type 1} → statement M
 plain-spec =

@@ -66,10 +66,13 @@ slice-set-from-w c = omega (arith, long (c .before .before .before .before .befo
 
 loop-again : tie.Need-loop-again Inv-loop μ-loop
 loop-again c =
-    let a = c .before .before .before .before .before .before .before .before .args in
-    let p = c .before .before .before .before .before .loop .p in
+    let at-scaled-arg = c .before .before in
+    let at-loop = at-scaled-arg .before .before .before in
+    let at-entry = at-loop .before .before .before in
+    let a = at-entry .args in
+    let p = at-loop .loop .p in
     let room : p < length (a .s .now) = omega arith in
-    (search needs, rw (back w64 (c .scaled .result) (c .scaled .ok), c .scaled .ensures, back w32 _ (c .before .before .scaled-arg .given), is-zigzag (c .before .before .before .before), c .before .before .before .before .before .loop .inv .1) (front-turn (a .s .now) (product-of (a .values .now) (a .quantisers .now) (a .block)) p room))
+    (search needs, rw (back w64 (c .scaled .result) (c .scaled .ok), c .scaled .ensures, back w32 _ (at-scaled-arg .scaled-arg .given), is-zigzag (c .before .before .before .before), at-loop .loop .inv .1) (front-turn (a .s .now) (product-of (a .values .now) (a .quantisers .now) (a .block)) p room))
 
 same-length : tie.Need-same-length Inv-loop μ-loop
 same-length c = long (c .before) ∙ sym (c .before .before .before .before .pre .0 .1)

@@ -52,9 +52,12 @@ add-block c = omega (arith, c .before .before .before .before .before .before .b
 
 loop-again : tie.Need-loop-again Inv-loop μ-loop
 loop-again c =
-    let a = c .before .before .before .before .before .before .before .args in
-    let i = c .before .before .before .before .loop in
-    (omega arith, c .before .transform-block .ensures ∙ rw (i .inv .1) (joined-turn (a .destination .now) 64 (samples-of (a .values .now) (a .quantisers .now) (toZ w64 (ofZ w64 (c .before .before .before .before .before .centre .result)))) (each-long (a .values .now) (a .quantisers .now) _) (i .block)))
+    let at-loop = c .before .before .before .before in
+    let at-centre = at-loop .before in
+    let at-entry = at-centre .before .before in
+    let a = at-entry .args in
+    let i = at-loop .loop in
+    (omega arith, c .before .transform-block .ensures ∙ rw (i .inv .1) (joined-turn (a .destination .now) 64 (samples-of (a .values .now) (a .quantisers .now) (toZ w64 (ofZ w64 (at-centre .centre .result)))) (each-long (a .values .now) (a .quantisers .now) _) (i .block)))
 
 same-length : tie.Need-same-length Inv-loop μ-loop
 same-length c = long (c .before)

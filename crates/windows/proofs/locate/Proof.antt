@@ -28,7 +28,12 @@ loop-less : tie.Need-loop-less Inv-loop μ-loop
 loop-less c = let m = met _ _ _ _ (c .before .before .before .before .before .before .before .before .next-mine .ensures) (c .before .before .before .before .before .before .head .given .1) in omega arith
 
 loop-again : tie.Need-loop-again Inv-loop μ-loop
-loop-again c = locate-turn (c .before .before .before .before .before .before .before .before .before .loop .inv) (met _ _ _ _ (c .before .before .before .before .before .before .before .before .next-mine .ensures) (c .before .before .before .before .before .before .head .given .1)) (c .before .before .mark .ensures)
+loop-again c =
+    let at-mark = c .before .before in
+    let at-head = at-mark .before .before .before .before in
+    let at-next-mine = at-head .before .before in
+    let at-loop = at-next-mine .before in
+    locate-turn (at-loop .loop .inv) (met _ _ _ _ (at-next-mine .next-mine .ensures) (at-head .head .given .1)) (at-mark .mark .ensures)
 
 pub locate-spec : {M : Type 1} → statement M
 locate-spec =

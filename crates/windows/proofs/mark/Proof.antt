@@ -19,7 +19,9 @@ returns-2 c = let e : c .before .before .args .number - 1 - c .before .before .a
 
 returns-3 : tie.Need-returns-3
 unfolding marked
-returns-3 c = let e : c .before .before .args .number - 1 - c .before .before .args .passed ≡ c .before .before .args .number - (c .before .before .args .passed + 1) = omega arith in rw (lt-leb _ _ (c .before .if1 .left), set-out (c .before .before .args .places .now) (c .before .before .args .number - (c .before .before .args .passed + 1)) (c .before .before .args .at) (omega arith))
+returns-3 c =
+    let at-entry = c .before .before in
+    let e : at-entry .args .number - 1 - at-entry .args .passed ≡ at-entry .args .number - (at-entry .args .passed + 1) = omega arith in rw (lt-leb _ _ (c .before .if1 .left), set-out (at-entry .args .places .now) (at-entry .args .number - (at-entry .args .passed + 1)) (at-entry .args .at) (omega arith))
 
 pub mark-spec : {M : Type 1} → statement M
 mark-spec =

@@ -20,10 +20,22 @@ loop-holds : tie.Need-loop-holds Inv-loop μ-loop
 loop-holds c = let e : c .before .before .args .n - 0 ≡ c .before .before .args .n = omega arith in (rw e, omega arith, refl)
 
 add-t19 : tie.Need-add-t19 Inv-loop μ-loop
-add-t19 c = let h = window-index (c .before .before .before .before .before .before .before .before .locate .ensures) _ (c .before .before .before .before .before .before .before .before .before .before .before .before .before .before .args .n - c .before .before .before .before .before .before .before .before .before .before .before .loop .passed) (omega (arith, c .before .before .before .before .before .lesser .ensures)) (omega (arith, c .before .before .before .before .before .lesser .ensures)) (c .before .before .before .first-gone .ensures) (c .before .i .given .1) in omega (arith, c .before .before .before .before .before .lesser .ensures)
+add-t19 c =
+    let at-first-gone = c .before .before .before in
+    let at-lesser = at-first-gone .before .before in
+    let at-locate = at-lesser .before .before .before in
+    let at-loop = at-locate .before .before .before in
+    let at-entry = at-loop .before .before .before in
+    let h = window-index (at-locate .locate .ensures) _ (at-entry .args .n - at-loop .loop .passed) (omega (arith, at-lesser .lesser .ensures)) (omega (arith, at-lesser .lesser .ensures)) (at-first-gone .first-gone .ensures) (c .before .i .given .1) in omega (arith, at-lesser .lesser .ensures)
 
 returns : tie.Need-returns Inv-loop μ-loop
-returns c = sym (window-missing (c .before .before .before .before .before .before .before .before .locate .ensures) _ (c .before .before .before .before .before .before .before .before .before .before .before .before .before .before .args .n - c .before .before .before .before .before .before .before .before .before .before .before .loop .passed) (omega (arith, c .before .before .before .before .before .lesser .ensures)) (omega (arith, c .before .before .before .before .before .lesser .ensures)) (c .before .before .before .first-gone .ensures) (c .before .i .given .1)) ∙ c .before .before .before .before .before .before .before .before .before .before .before .loop .inv .0
+returns c =
+    let at-first-gone = c .before .before .before in
+    let at-lesser = at-first-gone .before .before in
+    let at-locate = at-lesser .before .before .before in
+    let at-loop = at-locate .before .before .before in
+    let at-entry = at-loop .before .before .before in
+    sym (window-missing (at-locate .locate .ensures) _ (at-entry .args .n - at-loop .loop .passed) (omega (arith, at-lesser .lesser .ensures)) (omega (arith, at-lesser .lesser .ensures)) (at-first-gone .first-gone .ensures) (c .before .i .given .1)) ∙ at-loop .loop .inv .0
 
 add-passed : tie.Need-add-passed Inv-loop μ-loop
 add-passed c = omega (arith, c .before .before .before .before .lesser .ensures)
@@ -32,9 +44,15 @@ loop-less : tie.Need-loop-less Inv-loop μ-loop
 loop-less c = omega (arith, c .before .before .before .before .lesser .ensures)
 
 loop-again : tie.Need-loop-again Inv-loop μ-loop
-loop-again c = let w = window-passed (c .before .before .before .before .before .before .before .locate .ensures) (c .before .before .before .before .lesser .result) (c .before .before .before .before .before .before .before .before .before .before .before .before .before .args .n - c .before .before .before .before .before .before .before .before .before .before .loop .passed) (omega (arith, c .before .before .before .before .lesser .ensures)) (omega (arith, c .before .before .before .before .lesser .ensures)) (c .before .before .first-gone .ensures) (c .enum-told .given .1) in
-    let e : c .before .before .before .before .before .before .before .before .before .before .before .before .before .args .n - (c .before .before .before .before .before .before .before .before .before .before .loop .passed + c .before .before .before .before .lesser .result) ≡ c .before .before .before .before .before .before .before .before .before .before .before .before .before .args .n - c .before .before .before .before .before .before .before .before .before .before .loop .passed - c .before .before .before .before .lesser .result = omega arith in
-    (rw e (sym w ∙ c .before .before .before .before .before .before .before .before .before .before .loop .inv .0), omega (arith, c .before .before .before .before .lesser .ensures), search needs)
+loop-again c =
+    let at-first-gone = c .before .before in
+    let at-lesser = at-first-gone .before .before in
+    let at-locate = at-lesser .before .before .before in
+    let at-loop = at-locate .before .before .before in
+    let at-entry = at-loop .before .before .before in
+    let w = window-passed (at-locate .locate .ensures) (at-lesser .lesser .result) (at-entry .args .n - at-loop .loop .passed) (omega (arith, at-lesser .lesser .ensures)) (omega (arith, at-lesser .lesser .ensures)) (at-first-gone .first-gone .ensures) (c .enum-told .given .1) in
+    let e : at-entry .args .n - (at-loop .loop .passed + at-lesser .lesser .result) ≡ at-entry .args .n - at-loop .loop .passed - at-lesser .lesser .result = omega arith in
+    (rw e (sym w ∙ at-loop .loop .inv .0), omega (arith, at-lesser .lesser .ensures), search needs)
 
 returns-2 : tie.Need-returns-2 Inv-loop μ-loop
 returns-2 c = sym (missing-done _ _ _ (omega arith)) ∙ c .before .loop .inv .0

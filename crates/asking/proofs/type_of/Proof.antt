@@ -1,12 +1,17 @@
 use Rattle.asking.specs.Words.{typeOf}
 use borrow.Author.Tests.{eq-eqb, ne-eqb}
 use borrow.Author.Needs.{needs}
-use Rattle.asking.proofs.read_type.Statement.{statement}
-use Rattle.asking.proofs.read_type.Tie as tie
+use Rattle.asking.proofs.type_of.Statement.{statement}
+use Rattle.asking.proofs.type_of.Tie as tie
 
 returns : tie.Need-returns
 unfolding typeOf
-returns c = rw (eq-eqb _ _ (c .before .before .before .before .before .before .before .before .if1 .taken), ← c .before .before .before .before .before .before .wide .ensures .0, ← c .before .before .before .before .wide2 .ensures .0, ← c .before .before .wide3 .ensures .0, ← c .wide4 .ensures .0)
+returns c =
+    let at-wide3 = c .before .before in
+    let at-wide2 = at-wide3 .before .before in
+    let at-wide = at-wide2 .before .before in
+    let at-if1 = at-wide .before .before in
+    rw (eq-eqb _ _ (at-if1 .if1 .taken), ← at-wide .wide .ensures .0, ← at-wide2 .wide2 .ensures .0, ← at-wide3 .wide3 .ensures .0, ← c .wide4 .ensures .0)
 
 returns-2 : tie.Need-returns-2
 unfolding typeOf
@@ -16,8 +21,8 @@ returns-3 : tie.Need-returns-3
 unfolding typeOf
 returns-3 c = rw (ne-eqb _ _ (c .before .if1 .left), ne-eqb _ _ (c .if2 .left))
 
-pub read-type-spec : {M : Type 1} → statement M
-read-type-spec =
+pub type-of-spec : {M : Type 1} → statement M
+type-of-spec =
     tie.close
     (tie.spec
     (λ c. search needs)

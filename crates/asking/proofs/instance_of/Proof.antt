@@ -2,8 +2,8 @@ use Rattle.asking.specs.Words.{instanceOf}
 use borrow.Author.Tests.{le-leb, lt-leb, eq-eqb, ne-eqb}
 use mathlib.Core.Path.{sym, _∙_}
 use borrow.Author.Needs.{needs}
-use Rattle.asking.proofs.read_instance.Statement.{statement}
-use Rattle.asking.proofs.read_instance.Tie as tie
+use Rattle.asking.proofs.instance_of.Statement.{statement}
+use Rattle.asking.proofs.instance_of.Tie as tie
 
 returns : tie.Need-returns
 unfolding instanceOf
@@ -21,8 +21,8 @@ returns-4 : tie.Need-returns-4
 unfolding instanceOf
 returns-4 c = rw (ne-eqb _ _ (c .before .before .before .before .before .if1 .left), sym (c .before .before .before .before .read-number .ensures) ∙ c .before .before .value .given .1, lt-leb _ _ (c .if2 .left))
 
-pub read-instance-spec : {M : Type 1} → statement M
-read-instance-spec =
+pub instance-of-spec : {M : Type 1} → statement M
+instance-of-spec =
     tie.close
     (tie.spec
     returns

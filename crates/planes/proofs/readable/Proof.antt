@@ -1,10 +1,10 @@
--- `planes::in_ranges` meets its contract. Assumes nothing.
+-- `planes::readable` meets its contract. Assumes nothing.
 use mathlib.Core.Path.{sym}
 use borrow.Author.Tests.{le-leb, lt-leb}
 use Rattle.laws.specs.Index.{every}
 use Rattle.laws.proofs.Tests.{every-last}
-use Rattle.planes.proofs.in_ranges.Statement.{statement}
-use Rattle.planes.proofs.in_ranges.Tie as tie
+use Rattle.planes.proofs.readable.Statement.{statement}
+use Rattle.planes.proofs.readable.Tie as tie
 
 returns : tie.Need-returns
 unfolding every
@@ -18,5 +18,5 @@ returns-3 : tie.Need-returns-3
 unfolding every
 returns-3 c = rw (le-leb _ _ (c .before .if1 .left), le-leb _ _ (c .if2 .left)) (sym (every-last _))
 
-pub in-ranges-spec : {M : Type 1} → statement M
-in-ranges-spec = tie.close (tie.spec returns returns-2 returns-3)
+pub readable-spec : {M : Type 1} → statement M
+readable-spec = tie.close (tie.spec returns returns-2 returns-3)
