@@ -1,3 +1,4 @@
+-- `asking::instance_of` meets its contract. Assumes nothing.
 use Rattle.asking.specs.Words.{instanceOf}
 use borrow.Author.Tests.{le-leb, lt-leb, eq-eqb, ne-eqb}
 use mathlib.Core.Path.{sym, _∙_}

@@ -1,3 +1,4 @@
+-- `asking::type_of` meets its contract. Assumes nothing.
 use Rattle.asking.specs.Words.{typeOf}
 use borrow.Author.Tests.{eq-eqb, ne-eqb}
 use borrow.Author.Needs.{needs}

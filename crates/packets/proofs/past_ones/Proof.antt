@@ -1,4 +1,4 @@
--- `boxes::past_ones` meets its contract. The run from m on ends where the run from `at` on ends.
+-- `packets::past_ones` meets its contract. The run from m on ends where the run from `at` on ends.
 use borrow.Author.Needs.{needs}
 use Prim.Native.Nat.{_+_, _-_}
 use mathlib.Core.Path.{_≡_, sym, _∙_}
