@@ -280,7 +280,7 @@ fn put_by_number(file: &[u8], kind: u32, instance: u16, n: usize, destination: &
     requires { ⌜ Numbered (mineOf (now file) kind instance) n (length (now destination)) ⌝ }
     ensures { λ _. ⌜ now (destination .exit) ≡ putAt (now (destination .entry)) 0 (joined (mineOf (now (file .entry)) kind instance)) ⌝ }
 {
-    let mut places = [0usize; 4096];
+    let mut places = [0usize; 16384];
     put_windows(file, kind, instance, n, &mut places, destination);
 }
 

@@ -102,6 +102,6 @@ fn missing_by(file: &[u8], kind: u32, instance: u16, n: usize, places: &mut [usi
 pub fn first_missing(file: &[u8], kind: u32, instance: u16, n: usize) -> Found
     ensures { λ r. ⌜ r ≡ missingFrom n 1 (numbersFrom (now (file .entry)) kind instance 2) ⌝ }
 {
-    let mut places = [0usize; 4096];
+    let mut places = [0usize; 16384];
     missing_by(file, kind, instance, n, &mut places)
 }
