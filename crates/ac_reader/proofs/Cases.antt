@@ -10,7 +10,7 @@ use Rattle.answers.specs.Verdict.{given, refused, refusal}
 use Rattle.levels.specs.Level.{inLevel, isDc, inside, firstOutside}
 use Rattle.bits.specs.Digits.{digits}
 use Rattle.bits.specs.Source.{opened, afterFF, nextByte, takeFrom, takeBit, onlyPadding}
-use Rattle.codes.specs.Table.{Table, table, total, kraft, holds, distinct, goodTable}
+use Rattle.codes.specs.Table.{Table, table, codeCount, kraft, holds, distinct, goodTable}
 use Rattle.codes.specs.Read.{codeFrom, takeCode}
 use Rattle.planes.specs.Plane.{onto, closed}
 use Rattle.planes.specs.AcRead.{takeNumber, endRun, meaning, taskAt, position, blockEnd, acBlock, cut, acBlocks, readAc}
@@ -54,5 +54,5 @@ pub beyond-c : (map (λ (r : Reading). readAc 1 1 (r .codes) (r .values) (r .byt
     × (readAc 1 2 T (zeros 126) (0x3f ∷ []) 126 ≡ refused (refusal 12 1))
     × (readAc 1 0 T [] [] 0 ≡ given [])
     × (readAc 1 0 T [] (0xff ∷ []) 0 ≡ refused (refusal 18 0))
-unfolding every orHere firstFail inLevel isDc inside firstOutside digits opened afterFF nextByte takeFrom takeBit onlyPadding total kraft holds distinct goodTable codeFrom takeCode onto closed takeNumber endRun meaning taskAt position blockEnd acBlock cut acBlocks readAc
+unfolding every orHere firstFail inLevel isDc inside firstOutside digits opened afterFF nextByte takeFrom takeBit onlyPadding codeCount kraft holds distinct goodTable codeFrom takeCode onto closed takeNumber endRun meaning taskAt position blockEnd acBlock cut acBlocks readAc
 beyond-c = (refl, refl, refl, refl, refl)

@@ -16,7 +16,7 @@ use Rattle.bits.specs.declared.Cursor.{Cursor}
 use Rattle.codes.specs.Table.{Table}
 use Rattle.planes.specs.Task.{Task}
 use Rattle.planes.specs.AcRead.{taskAt, position, acBlock}
-use Rattle.ac_tasks.specs.Code.{openOf, blockOf, Ends}
+use Rattle.ac_tasks.specs.Code.{openOf, blockOf, BlockEnds}
 use Rattle.ac_tasks.specs.declared.Open.{Open}
 use Rattle.ac_tasks.specs.declared.Block.{Block}
 use Rattle.ac_tasks.specs.declared.Block.the-variants.{Done, Halted}
@@ -52,7 +52,7 @@ pub at-first : {bytes : List ℕ} {T : Table} {left : ℕ} {values now : List �
 at-first l = record { within = omega arith; long = l; same = front-none _ }
 
 module _ {bytes : List ℕ} {T : Table} {left : ℕ} {values now : List ℤ} {task₀ task : Open} {c₀ c : Cursor} {i : ℕ} (a : At bytes T left values now task₀ task c₀ c i) where
-  pub at-end : {r : Block} → length values ≤ i → Ends task c r → blockOf bytes now r ≡ acBlock T left (openOf task₀) values (sourceOf bytes c₀)
+  pub at-end : {r : Block} → length values ≤ i → BlockEnds task c r → blockOf bytes now r ≡ acBlock T left (openOf task₀) values (sourceOf bytes c₀)
   unfolding acBlock
   at-end {r} h e =
       let all : take i now ≡ now = take-all i now (omega (arith, a .long)) in

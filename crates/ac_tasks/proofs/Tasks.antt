@@ -14,7 +14,7 @@ use Rattle.bits.specs.Code.{sourceOf}
 use Rattle.bits.specs.declared.Cursor.{Cursor}
 use Rattle.planes.specs.Task.{Task, walk, ended, atZero, pass}
 use Rattle.planes.specs.AcRead.{meaning, corrected, position, blockEnd}
-use Rattle.ac_tasks.specs.Code.{taskOf, openOf, placedOf, blockOf, Passes, Ends}
+use Rattle.ac_tasks.specs.Code.{taskOf, openOf, placedOf, blockOf, Passes, BlockEnds}
 use Rattle.ac_tasks.specs.declared.Job.{Job}
 use Rattle.ac_tasks.specs.declared.Job.the-variants.{Ended}
 use Rattle.ac_tasks.specs.declared.Open.{Open}
@@ -29,20 +29,20 @@ one-less n h = omega arith
 -- ---- the end of a block
 
 module _ {task : Open} {c : Cursor} where
-  pub ends-none : task ≡ Nothing → Ends task c (Done Nothing c)
+  pub ends-none : task ≡ Nothing → BlockEnds task c (Done Nothing c)
   unfolding blockEnd blockOf
   ends-none e = rw e (record { same = λ bytes. refl })
 
   module _ {job : Job} (e : task ≡ Doing job) where
-    pub ends-walk : {n : ℕ} {sign : Option Bool} → taskOf job ≡ walk n sign → Ends task c (Halted (stop 16))
+    pub ends-walk : {n : ℕ} {sign : Option Bool} → taskOf job ≡ walk n sign → BlockEnds task c (Halted (stop 16))
     unfolding blockEnd blockOf
     ends-walk q = record { same = λ bytes. rw (e, q) }
 
-    pub ends-last : {n : ℕ} → job ≡ Ended n → n ≡ 0 → Ends task c (Done Nothing c)
+    pub ends-last : {n : ℕ} → job ≡ Ended n → n ≡ 0 → BlockEnds task c (Done Nothing c)
     unfolding blockEnd blockOf
     ends-last q z = rw (e, q, z) (record { same = λ bytes. refl })
 
-    pub ends-run : {n : ℕ} → job ≡ Ended n → (n ≡ 0 → ⊥) → Ends task c (Done (Doing (Ended (n - 1))) c)
+    pub ends-run : {n : ℕ} → job ≡ Ended n → (n ≡ 0 → ⊥) → BlockEnds task c (Done (Doing (Ended (n - 1))) c)
     unfolding blockEnd blockOf
     ends-run {n} q z = rw (e, q) (record { same = λ bytes. sym (ap (λ (k : ℕ). blockEnd (some (ended k)) (sourceOf bytes c)) (one-less n z)) })
 

@@ -58,5 +58,5 @@ pub record Passes (job : Job) (c : Cursor) (r : Placed) : Type 0 where
   pub same : (bytes : List ℕ) → placedOf bytes r ≡ got (atZero (taskOf job), pass (taskOf job)) (sourceOf bytes c)
 
 -- nor at the end of a block
-pub record Ends (task : Open) (c : Cursor) (r : Block) : Type 0 where
+pub record BlockEnds (task : Open) (c : Cursor) (r : Block) : Type 0 where
   pub same : (bytes : List ℕ) → blockOf bytes [] r ≡ blockEnd (openOf task) (sourceOf bytes c)

@@ -7,7 +7,7 @@ ghost use Rattle.bits.specs.Code.{sourceOf};
 ghost use Rattle.codes.specs.Table.{table, goodTable};
 ghost use Rattle.planes.specs.Task.{unit};
 ghost use Rattle.planes.specs.AcRead.{endRun, meaning, taskAt, corrected, position};
-ghost use Rattle.ac_tasks.specs.Code.{Counts, taskOf, openOf, toldOf, placedOf, Passes, Ends};
+ghost use Rattle.ac_tasks.specs.Code.{Counts, taskOf, openOf, toldOf, placedOf, Passes, BlockEnds};
 use bits::Cursor;
 use bits::Stop;
 use bits::Taken;
@@ -195,7 +195,7 @@ pub fn position(data: &[u8], job: Job, value: i32, c: Cursor) -> Placed
 
 // Behind position 63 an open walk has "no place left in the block": 16; an end run goes on.
 pub fn block_end(task: Open, c: Cursor) -> Block
-    ensures { λ r. ⌜ Ends task c r ⌝ }
+    ensures { λ r. ⌜ BlockEnds task c r ⌝ }
 {
     match task {
         Open::Nothing => Block::Done(Open::Nothing, c),

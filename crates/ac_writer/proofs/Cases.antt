@@ -10,7 +10,7 @@ use Rattle.answers.specs.Verdict.{Verdict, given, refused, refusal}
 use Rattle.levels.specs.Level.{inLevel, isDc, inside, firstOutside}
 use Rattle.bits.specs.Digits.{digits}
 use Rattle.bits.specs.Pack.{stuffed, padded, packed}
-use Rattle.codes.specs.Table.{Table, table, total, kraft, holds, distinct, goodTable}
+use Rattle.codes.specs.Table.{Table, table, codeCount, kraft, holds, distinct, goodTable}
 use Rattle.codes.specs.Write.{placeOf, codeAt, word}
 use Rattle.planes.specs.AcRead.{cut}
 use Rattle.planes.specs.AcWrite.{kindOf, oneMore, ahead, quiet, plan, order, emit, writeBlock, writeBlocks, tokens, lacking, spelled, writeAc}
@@ -57,5 +57,5 @@ writings =
     ∷ []
 
 pub cases : map (λ (w : Writing). writeAc 1 (w .blocks) (w .codes) (w .values) (w .room)) writings ≡ map (λ (w : Writing). w .verdict) writings
-unfolding every firstFail orHere inLevel isDc inside firstOutside digits stuffed padded packed total kraft holds distinct goodTable placeOf codeAt word cut kindOf oneMore ahead quiet plan order emit writeBlock writeBlocks tokens lacking spelled writeAc
+unfolding every firstFail orHere inLevel isDc inside firstOutside digits stuffed padded packed codeCount kraft holds distinct goodTable placeOf codeAt word cut kindOf oneMore ahead quiet plan order emit writeBlock writeBlocks tokens lacking spelled writeAc
 cases = refl

@@ -19,7 +19,7 @@ use Rattle.ac_tasks.specs.declared.Open.the-variants.{Nothing, Doing}
 use Rattle.ac_plan.specs.Plan.{kindsFrom, kindIs, Short, Planned}
 use Rattle.ac_plan.specs.declared.Change.{Change}
 use Rattle.ac_plan.proofs.Looking.{kinds-cons, kinds-end}
-use Rattle.ac_writer.specs.Telling.{Ready, Told, Begins, stepOf, Moves}
+use Rattle.ac_writer.specs.Telling.{PenReady, Told, Begins, stepOf, Moves}
 use Rattle.ac_writer.specs.declared.Pen.{Pen}
 use Rattle.ac_writer.specs.declared.State.{State}
 use Rattle.ac_writer.specs.declared.Begun.{Begun}
@@ -49,7 +49,7 @@ module _ {T : Table} {before : List ℕ} {s : State} (kinds : List Kind) (later 
       → Begins T before after s (record { pen = p; job = job }) kinds later
   begins-need e h f = record { job = rw e (h .same); told = rw e (rw (h .same) at f) }
 
-  pub begins-near : {after : List ℕ} {b : Begun} → Begins T before after s b kinds later → goodTable T ≡ true → Ready (s .pen)
+  pub begins-near : {after : List ℕ} {b : Begun} → Begins T before after s b kinds later → goodTable T ≡ true → PenReady (s .pen)
       → Sound (b .pen .putter) × (b .pen .putter .at < 2 ^ 61)
   begins-near b g h =
       (b .told .put .sound, omega (arith, b .told .put .near, tell-length T g (openOf (s .task)) (choose (openOf (s .task)) kinds later), h .near))
@@ -89,7 +89,7 @@ module _ {T : Table} {before : List ℕ} {s : State} (block : List ℤ) (later :
   walk-start h = record { telling = telling-start h; task = refl }
 
   module _ {memory : List ℕ} {q : State} {i : ℕ} (w : Walking T before memory s q block i later) where
-    pub walk-ready : goodTable T ≡ true → length block ≤ 63 → s .pen .putter .at < 2 ^ 59 → Ready (q .pen)
+    pub walk-ready : goodTable T ≡ true → length block ≤ 63 → s .pen .putter .at < 2 ^ 59 → PenReady (q .pen)
     walk-ready g h l = record {
       sound = w .telling .going .sound;
       near = omega (arith, w .telling .going .near, block-length T g (openOf (s .task)) (kindsFrom block 0) later, kinds-length block);

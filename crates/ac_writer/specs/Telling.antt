@@ -25,7 +25,7 @@ abbrev pub newPen : Pen
 newPen = record { putter = fresh; lack = Nothing }
 
 -- a pen that can go on
-pub record Ready (p : Pen) : Type 0 where
+pub record PenReady (p : Pen) : Type 0 where
   pub sound : Sound (p .putter)
   pub near : p .putter .at < 2 ^ 60
 

@@ -13,7 +13,7 @@ ghost use Rattle.planes.specs.Task.{ended};
 ghost use Rattle.planes.specs.AcWrite as written;
 ghost use Rattle.ac_tasks.specs.Code.{taskOf, openOf};
 ghost use Rattle.ac_plan.specs.Plan.{kindsFrom, kindBlocks, kindIs, Short};
-ghost use Rattle.ac_writer.specs.Telling.{firstOf, newPen, Ready, Told, Begins, stepOf, Moves};
+ghost use Rattle.ac_writer.specs.Telling.{firstOf, newPen, PenReady, Told, Begins, stepOf, Moves};
 use ac_plan::Change;
 use ac_tasks::Job;
 use ac_tasks::Open;
@@ -53,7 +53,7 @@ fn or_lacking(lack: Found, value: u8) -> Found
 
 // A code, or that the table lacks it.
 fn tell_code(destination: &mut [u8], counts: &[u8], codes: &[u8], pen: Pen, value: u8) -> Pen
-    requires { ⌜ Ready pen ⌝ }
+    requires { ⌜ PenReady pen ⌝ }
     requires { ⌜ goodTable (table (now counts) (now codes)) ≡ true ⌝ }
     ensures { λ r. ⌜ Told (table (now (counts .entry)) (now (codes .entry))) (now (destination .entry)) (now (destination .exit)) pen r (written.code value ∷ []) ⌝ }
 {
@@ -103,7 +103,7 @@ fn class_of(n: usize) -> usize
 
 // "a run of 2^r + e blocks": its code, then the r low bits.
 fn tell_run(destination: &mut [u8], counts: &[u8], codes: &[u8], pen: Pen, n: usize) -> Pen
-    requires { ⌜ Ready pen ⌝ }
+    requires { ⌜ PenReady pen ⌝ }
     requires { ⌜ (goodTable (table (now counts) (now codes)) ≡ true) × (n ≤ 1024) ⌝ }
     ensures { λ r. ⌜ Told (table (now (counts .entry)) (now (codes .entry))) (now (destination .entry)) (now (destination .exit)) pen r (written.emit (ended n)) ⌝ }
 {
@@ -117,7 +117,7 @@ fn tell_run(destination: &mut [u8], counts: &[u8], codes: &[u8], pen: Pen, n: us
 
 // The code that tells a task, and the bits behind it.
 fn emit(destination: &mut [u8], counts: &[u8], codes: &[u8], pen: Pen, job: Job) -> Pen
-    requires { ⌜ Ready pen ⌝ }
+    requires { ⌜ PenReady pen ⌝ }
     requires { ⌜ (goodTable (table (now counts) (now codes)) ≡ true) × Short job ⌝ }
     ensures { λ r. ⌜ Told (table (now (counts .entry)) (now (codes .entry))) (now (destination .entry)) (now (destination .exit)) pen r (written.emit (taskOf job)) ⌝ }
 {
@@ -154,7 +154,7 @@ fn begin(
     later: &[i32],
     blocks: usize,
 ) -> Begun
-    requires { ⌜ Ready (state .pen) ⌝ }
+    requires { ⌜ PenReady (state .pen) ⌝ }
     requires { ⌜ goodTable (table (now counts) (now codes)) ≡ true ⌝ }
     requires { ⌜ (length (now later) ≡ 63 * blocks) × (blocks ≤ 1024) ⌝ }
     ensures { λ r. ⌜ Begins (table (now (counts .entry)) (now (codes .entry))) (now (destination .entry)) (now (destination .exit)) state r (kindsFrom (now (block .entry)) i) (kindBlocks blocks (now (later .entry))) ⌝ }
@@ -182,7 +182,7 @@ fn step(
     later: &[i32],
     blocks: usize,
 ) -> State
-    requires { ⌜ Ready (state .pen) ⌝ }
+    requires { ⌜ PenReady (state .pen) ⌝ }
     requires { ⌜ (goodTable (table (now counts) (now codes)) ≡ true) × (i < length (now block)) ⌝ }
     requires { ⌜ (length (now later) ≡ 63 * blocks) × (blocks ≤ 1024) ⌝ }
     ensures { λ r. ⌜ Moves (table (now (counts .entry)) (now (codes .entry))) (now (destination .entry)) (now (destination .exit)) state r (stepOf (openOf (state .task)) (written.kindOf (getD (now (block .entry)) i (pos 0))) (kindsFrom (now (block .entry)) i) (kindBlocks blocks (now (later .entry)))) ⌝ }

@@ -10,17 +10,17 @@ use lib.ListN.{length, getD, drop, drop-of-length-le, length-drop}
 use lib.Seq.{drop-cons}
 use borrow.Author.Tests.{leb-true, eqb-true, ne-eqb, eq-eqb}
 use Rattle.laws.proofs.Lists.{every-first, every-rest}
-use Rattle.codes.specs.Table.{Table, total, kraft, holds, distinct, goodTable}
+use Rattle.codes.specs.Table.{Table, codeCount, kraft, holds, distinct, goodTable}
 
 -- ---- from an index on
 
 module _ (ns : List ℕ) (l : ℕ) where
-  pub total-end : length ns ≤ l → total (drop l ns) ≡ 0
-  unfolding total
+  pub total-end : length ns ≤ l → codeCount (drop l ns) ≡ 0
+  unfolding codeCount
   total-end h = rw (drop-of-length-le ns h)
 
-  pub total-on : l < length ns → total (drop l ns) ≡ getD ns l 0 + total (drop (l + 1) ns)
-  unfolding total
+  pub total-on : l < length ns → codeCount (drop l ns) ≡ getD ns l 0 + codeCount (drop (l + 1) ns)
+  unfolding codeCount
   total-on h = rw (drop-cons ns l 0, add-one)
 
   kraft-end : length ns ≤ l → kraft (drop l ns) ≡ 0
@@ -60,12 +60,12 @@ module _ (ns : List ℕ) (l : ℕ) where
 pub record Summed (ns : List ℕ) (sum l : ℕ) : Type 0 where
   pub within : l ≤ length ns
   pub small : sum ≤ 255 * l
-  pub same : sum + total (drop l ns) ≡ total ns
+  pub same : sum + codeCount (drop l ns) ≡ codeCount ns
 
 pub sum-turn : {ns : List ℕ} {sum l x : ℕ} → Summed ns sum l → l < length ns → x ≡ getD ns l 0 → x < 256 → Summed ns (sum + x) (l + 1)
 sum-turn {ns} {sum} {l} {x} a h e k = record { within = omega arith; small = omega arith; same = omega (arith, total-on ns l h, e) }
 
-pub sum-end : {ns : List ℕ} {sum l : ℕ} → Summed ns sum l → length ns ≤ l → sum ≡ total ns
+pub sum-end : {ns : List ℕ} {sum l : ℕ} → Summed ns sum l → length ns ≤ l → sum ≡ codeCount ns
 sum-end {ns} {sum} {l} a h = omega (arith, total-end ns l h)
 
 pub product-small : (a w : ℕ) → a < 256 → w ≤ 32768 → a * w ≤ 8355840
@@ -99,7 +99,7 @@ pub record Good (T : Table) : Type 0 where
   pub sixteen : length (T .counts) ≡ 16
   pub some : 1 ≤ length (T .values)
   pub bytes : length (T .values) ≤ 256
-  pub all : total (T .counts) ≡ length (T .values)
+  pub all : codeCount (T .counts) ≡ length (T .values)
   pub room : kraft (T .counts) ≤ 65535
 
 pub good : (T : Table) → goodTable T ≡ true → Good T
@@ -113,7 +113,7 @@ good T e =
       sixteen = eqb-true (length (T .counts)) 16 (every-first _ _ e);
       some = leb-true 1 (length (T .values)) (every-first _ _ e1);
       bytes = leb-true (length (T .values)) 256 (every-first _ _ e2);
-      all = eqb-true (total (T .counts)) (length (T .values)) (every-first _ _ e3);
+      all = eqb-true (codeCount (T .counts)) (length (T .values)) (every-first _ _ e3);
       room = leb-true (kraft (T .counts)) 65535 (every-first _ _ e4);
     }
 

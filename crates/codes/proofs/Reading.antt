@@ -13,7 +13,7 @@ use borrow.Author.Tests.{lt-ltb, le-ltb}
 use Rattle.bits.specs.Digits.{bin}
 use Rattle.bits.specs.Source.{Source, got, stopped, stop, takeBit}
 use Rattle.bits.specs.declared.Stop.{Stop}
-use Rattle.codes.specs.Table.{Table, total, goodTable}
+use Rattle.codes.specs.Table.{Table, codeCount, goodTable}
 use Rattle.codes.specs.Read.{codeFrom, takeCode}
 use Rattle.codes.proofs.Laws.{good, total-on}
 
@@ -25,7 +25,7 @@ bin-small false = omega arith
 pub record Here (T : Table) (s₀ s : Source) (over place l : ℕ) : Type 0 where
   pub within : l ≤ length (T .counts)
   pub small : over < 2 ^ l
-  pub places : place + total (drop l (T .counts)) ≡ length (T .values)
+  pub places : place + codeCount (drop l (T .counts)) ≡ length (T .values)
   pub same : codeFrom (drop l (T .counts)) (drop place (T .values)) over s ≡ takeCode T s₀
 
 pub here-first : (T : Table) → goodTable T ≡ true → (s : Source) → Here T s s 0 0 0

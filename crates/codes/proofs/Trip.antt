@@ -21,7 +21,7 @@ use Rattle.bits.proofs.Trip.{in-hand, gives-split}
 use Rattle.bits.specs.declared.Putter.{Putter}
 use Rattle.bits.specs.Code.{Puts}
 use Rattle.bits.proofs.Putting.{Going, going-turn, going-end}
-use Rattle.codes.specs.Table.{Table, total, kraft, goodTable}
+use Rattle.codes.specs.Table.{Table, codeCount, kraft, goodTable}
 use Rattle.codes.specs.Read.{codeFrom, takeCode}
 use Rattle.codes.specs.Write.{placeOf, codeAt, word}
 use Rattle.codes.specs.Code.{Assigned}
@@ -91,13 +91,13 @@ room (n ∷ ns) g top h =
 
 -- ---- each value has a code
 
-located : (ns : List ℕ) (g size k : ℕ) → k < total ns → (m : ℕ) × (N : ℕ) × Coded ns g k m N × (codeAt ns (2 * g) size k ≡ digits (size + m) N)
-unfolding total codeAt
+located : (ns : List ℕ) (g size k : ℕ) → k < codeCount ns → (m : ℕ) × (N : ℕ) × Coded ns g k m N × (codeAt ns (2 * g) size k ≡ digits (size + m) N)
+unfolding codeCount codeAt
 located [] g size k h = absurd (omega arith)
 located (n ∷ ns) g size k h = go (ltb k n) refl (λ l. located ns (2 * g + n) (suc size) (k - n) l)
   where
     go : (b : Bool) → ltb k n ≡ b
-        → (k - n < total ns → (m : ℕ) × (N : ℕ) × Coded ns (2 * g + n) (k - n) m N × (codeAt ns (2 * (2 * g + n)) (suc size) (k - n) ≡ digits (suc size + m) N))
+        → (k - n < codeCount ns → (m : ℕ) × (N : ℕ) × Coded ns (2 * g + n) (k - n) m N × (codeAt ns (2 * (2 * g + n)) (suc size) (k - n) ≡ digits (suc size + m) N))
         → (m : ℕ) × (N : ℕ) × Coded (n ∷ ns) g k m N × (cond b (digits size (2 * g + k)) (codeAt ns (2 * (2 * g + n)) (suc size) (k - n)) ≡ digits (size + m) N)
     go true e ih =
         let z : size + 0 ≡ size = omega arith in
@@ -146,11 +146,11 @@ pub record Assigning (counts : List ℕ) (place first k l : ℕ) : Type 0 where
   pub within : l ≤ length counts
   pub small : first + 510 ≤ 510 * 2 ^ l
   pub less : k ≤ place
-  pub left : k < total (drop l counts)
+  pub left : k < codeCount (drop l counts)
   pub same : codeAt (drop l counts) first (l + 1) k ≡ codeAt counts 0 1 place
 
 module _ {counts : List ℕ} {place : ℕ} (sixteen : length counts ≡ 16) where
-  pub assign-first : place < total counts → Assigning counts place 0 place 0
+  pub assign-first : place < codeCount counts → Assigning counts place 0 place 0
   assign-first h = record { within = omega arith; small = omega arith; less = omega arith; left = h; same = refl }
 
   module _ {first k l : ℕ} (a : Assigning counts place first k l) where

@@ -13,9 +13,9 @@ pub record Table : Type 0 where
 abbrev pub table : List ℕ → List ℕ → Table
 table counts values = record { counts = counts; values = values }
 
-unfoldable pub total : List ℕ → ℕ
-total [] = 0
-total (n ∷ counts) = n + total counts
+unfoldable pub codeCount : List ℕ → ℕ
+codeCount [] = 0
+codeCount (n ∷ counts) = n + codeCount counts
 
 -- "the sum over lengths l of count times 2^(16-l)", for 16 counts
 unfoldable pub kraft : List ℕ → ℕ
@@ -37,7 +37,7 @@ goodTable T =
     eqb (length (T .counts)) 16
     ∷ leb 1 (length (T .values))
     ∷ leb (length (T .values)) 256
-    ∷ eqb (total (T .counts)) (length (T .values))
+    ∷ eqb (codeCount (T .counts)) (length (T .values))
     ∷ leb (kraft (T .counts)) 65535
     ∷ distinct (T .values)
     ∷ [])

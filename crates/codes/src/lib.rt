@@ -5,7 +5,7 @@ ghost use Prim.Native.Nat.{_+_, _*_, _^_, _≤_, _<_};
 ghost use lib.ListN.{length, drop};
 ghost use Rattle.bits.specs.Digits.{digits};
 ghost use Rattle.bits.specs.Code.{sourceOf, Sound, Puts};
-ghost use Rattle.codes.specs.Table.{table, total, kraft, holds, distinct, goodTable};
+ghost use Rattle.codes.specs.Table.{table, codeCount, kraft, holds, distinct, goodTable};
 ghost use Rattle.codes.specs.Read.{takeCode, codedOf};
 ghost use Rattle.codes.specs.Write.{placeOf, codeAt};
 ghost use Rattle.codes.specs.Code.{Assigned};
@@ -33,9 +33,9 @@ fn wide(x: u8) -> usize
 }
 
 // The sum of 16 counts.
-fn total_of(counts: &[u8]) -> usize
+fn code_count(counts: &[u8]) -> usize
     requires { ⌜ length (now counts) ≡ 16 ⌝ }
-    ensures { λ r. ⌜ r ≡ total (now (counts .entry)) ⌝ }
+    ensures { λ r. ⌜ r ≡ codeCount (now (counts .entry)) ⌝ }
 {
     let mut sum = 0;
     let mut l = 0;
@@ -102,7 +102,7 @@ pub fn good_table(counts: &[u8], values: &[u8]) -> bool
     if 256 < values.len() {
         return false;
     }
-    if total_of(counts) != values.len() {
+    if code_count(counts) != values.len() {
         return false;
     }
     if 65535 < kraft_of(counts) {
@@ -157,7 +157,7 @@ pub fn place_of(v: u8, values: &[u8]) -> Found
 
 // The code of the value at a place.
 fn code_at(counts: &[u8], place: usize) -> Code
-    requires { ⌜ (length (now counts) ≡ 16) × (place < total (now counts)) × (place < 256) ⌝ }
+    requires { ⌜ (length (now counts) ≡ 16) × (place < codeCount (now counts)) × (place < 256) ⌝ }
     ensures { λ r. ⌜ Assigned (now (counts .entry)) place r ⌝ }
 {
     let mut first: usize = 0;

@@ -5,7 +5,7 @@ use Rattle.laws.specs.First.{firstFail, orHere}
 use Rattle.levels.specs.Level.{inLevel, isDc, inside, firstOutside}
 use Rattle.bits.specs.Digits.{digits}
 use Rattle.bits.specs.Source.{opened, afterFF, nextByte, takeFrom, takeBit, onlyPadding}
-use Rattle.codes.specs.Table.{total, kraft, holds, distinct, goodTable}
+use Rattle.codes.specs.Table.{codeCount, kraft, holds, distinct, goodTable}
 use Rattle.codes.specs.Read.{codeFrom, takeCode}
 use Rattle.planes.specs.Plane.{onto, closed}
 use Rattle.planes.specs.Dc.{newDc, dcBlocks, readDc}
@@ -24,19 +24,19 @@ use Rattle.transform.specs.Call.{isQuantiser, firstBadQuantiser, inverseTransfo
 use Rattle.rounding.specs.Near.{nearest, clip, row}
 use Rattle.curves.specs.Curves.{straight, curved, entries}
 use Rattle.pixel.specs.Pixels.{each, both, component}
-use Rattle.pixel.specs.Steps.{tinted, tints, transform, recolour, firstCentre, stepOne, stepTwo, matrixed, stepThree, scaled, stepFour, added, alone, joined, stepFive, basis, merged}
+use Rattle.pixel.specs.Steps.{tinted, tints, transform, recolour, firstCentre, stepOne, stepTwo, matrixed, stepThree, scaled, stepFour, added, alone, withResidual, stepFive, basis, merged}
 use Rattle.settings.specs.Tests.{inRanges, plain, srgbAllowed, residualCount, lengthsRight}
-use Rattle.merge.specs.Picture.{pixelAt, mergedAt, planes, picture, merge}
+use Rattle.merge.specs.Picture.{pixelAt, mergedAt, planes, mergedPicture, merge}
 use Rattle.demands.specs.Cases.{resultOf, WhiteboardHolds}
 
 pub whiteboard-holds : WhiteboardHolds
 unfolding resultOf sumTo tab joinTo every firstFail orHere inLevel isDc inside firstOutside digits opened afterFF nextByte takeFrom takeBit onlyPadding
-    total kraft holds distinct goodTable codeFrom takeCode onto closed newDc dcBlocks readDc
+    codeCount kraft holds distinct goodTable codeFrom takeCode onto closed newDc dcBlocks readDc
     takeNumber endRun meaning taskAt position blockEnd acBlock cut acBlocks readAc
     be16 be32 headAt ones barred tagged packetAt wholeAt sizedAt markedAt stepAt stepsIn stepsFrom begins walk ending packetsIn packets isMine mine
     numbers count least firstTwice missingFrom firstMissing alike agree contents boxes.total numbered joinedFrom boxes.joined assembled assemble boxBytes
     nineCosines halfTurn fullTurn kernel product rowSum doubleSum rounded sample blockSamples firstRow lastRow placesBefore zigzag zigzagAt
-    blocks.scaled dequantised centre blocks.picture isQuantiser firstBadQuantiser inverseTransform
+    blocks.timesQuantiser dequantised centre blocks.picture isQuantiser firstBadQuantiser inverseTransform
     nearest clip row straight curved entries each both component tinted tints transform recolour firstCentre stepOne stepTwo matrixed stepThree scaled
-    stepFour added alone joined stepFive basis merged inRanges plain srgbAllowed residualCount lengthsRight pixelAt mergedAt planes picture merge
+    stepFour added alone withResidual stepFive basis merged inRanges plain srgbAllowed residualCount lengthsRight pixelAt mergedAt planes mergedPicture merge
 whiteboard-holds = refl

@@ -15,7 +15,7 @@ use Rattle.laws.specs.declared.Found.{Found}
 use Rattle.laws.specs.declared.Found.the-variants.{At, Nothing}
 use Rattle.laws.proofs.Lists.{each}
 use Rattle.bits.specs.Digits.{digits}
-use Rattle.codes.specs.Table.{Table, table, total, kraft, holds, distinct, goodTable}
+use Rattle.codes.specs.Table.{Table, table, codeCount, kraft, holds, distinct, goodTable}
 use Rattle.codes.specs.Write.{placeOf}
 use Rattle.planes.specs.Task.{Task, walk, ended}
 use Rattle.planes.specs.AcWrite.{Kind, keep, still, fresh, ahead, quiet, planned, plan, Token, code, raw, class, emit, choose, tell, mark, after, writeBlock, writeBlocks, tokens, orElse, lacking}
@@ -28,7 +28,7 @@ everyCode =
     ∷ 0x01 ∷ 0x11 ∷ 0x21 ∷ 0x31 ∷ 0x41 ∷ 0x51 ∷ 0x61 ∷ 0x71 ∷ 0x81 ∷ 0x91 ∷ 0xa1 ∷ 0xb1 ∷ 0xc1 ∷ 0xd1 ∷ 0xe1 ∷ 0xf1 ∷ [])
 
 pub every-good : goodTable everyCode ≡ true
-unfolding goodTable every total kraft distinct holds
+unfolding goodTable every codeCount kraft distinct holds
 every-good = refl
 
 -- ---- the codes that it holds

@@ -132,7 +132,7 @@ merge-keeps s pixels base residual table room =
     need-keeps (srgbAllowed s) 20 0 _ (λ g. inl (tt, refl)) λ g.
     need-keeps (lengthsRight s pixels base residual table) 21 0 _ (λ h. inl (tt, refl)) λ h.
     unless-keeps 11 (firstFail (length table) (entryRight (top (s .rb)) table)) _ (λ i q. inr (inl (tt, first-index (length table) (entryRight (top (s .rb)) table) i q))) λ o.
-    fitting-keeps (merging.picture s pixels base residual table) (λ l. inr (inr (tt, (picture-long s pixels base residual table room, l))))
+    fitting-keeps (merging.mergedPicture s pixels base residual table) (λ l. inr (inr (tt, (picture-long s pixels base residual table room, l))))
 
 -- ---- no row has the number 0
 

@@ -12,10 +12,10 @@ use Rattle.planes.specs.Levels.{downward, towardZero}
 use Rattle.planes.proofs.Levels.{level-full, level-inside, climbed}
 use Rattle.planes.proofs.DcTrip.{dc-halving, dc-written, dc-read}
 use Rattle.planes.proofs.AcTrip.{ac-halving, ac-written, ac-read}
-use Rattle.demands.specs.Three.{Both, Within, levelOf, Lent, Enough, writePlane, readPlane, Refined, DemandThree, CanBeMet}
+use Rattle.demands.specs.Three.{Both, Within, levelOf, Provided, Enough, writePlane, readPlane, Refined, DemandThree, CanBeMet}
 use Rattle.demands.proofs.Held.{everyCode, every-good, every-held}
 
-module _ (k n : ℕ) (full : Both ℤ) (lent : ℕ → Lent) (few : k ≤ 4) (a : Within k n full) (enough : (j : ℕ) → 1 ≤ j → j ≤ k → Enough n (levelOf k full j) (lent j)) where
+module _ (k n : ℕ) (full : Both ℤ) (lent : ℕ → Provided) (few : k ≤ 4) (a : Within k n full) (enough : (j : ℕ) → 1 ≤ j → j ≤ k → Enough n (levelOf k full j) (lent j)) where
   bytes : ℕ → Both ℕ
   bytes j = record { dc = dcBytes (levelOf k full j .dc); ac = acBytes n (lent j .table) (levelOf k full j .ac) }
 

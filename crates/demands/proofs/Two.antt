@@ -31,7 +31,7 @@ use Rattle.transform.specs.Call.{firstBadQuantiser, inverseTransform}
 use Rattle.rounding.specs.Near.{top}
 use Rattle.pixel.specs.declared.Setting.{Setting}
 use Rattle.settings.specs.Tests.{inRanges, plain, srgbAllowed, lengthsRight, entryRight}
-use Rattle.merge.specs.Picture.{picture, merge}
+use Rattle.merge.specs.Picture.{mergedPicture, merge}
 use Rattle.demands.specs.One.{Rows}
 use Rattle.demands.specs.Two.{Exactly, Listed, DcRefined, AcRefined, DcCoded, AcCoded, Sampled, Merged, DemandTwo}
 use Rattle.demands.proofs.Rows.{Keeps, refuses, NoZero}
@@ -191,13 +191,13 @@ module _ (s : Setting) (pixels : ℕ) (base residual : List ℤ) (table : List �
       let c = need-given (srgbAllowed s) 20 0 _ ys (b .1) in
       let d = need-given (lengthsRight s pixels base residual table) 21 0 _ ys (c .1) in
       let q = unless-given 11 (firstFail (length table) (entryRight (top (s .rb)) table)) _ ys (d .1) in
-      let h = fitted room (picture s pixels base residual table) ys (q .1) in
+      let h = fitted room (mergedPicture s pixels base residual table) ys (q .1) in
       record { ranges = a .0; one = b .0; srgb = c .0; lengths = d .0; entries = q .0; results = h .0; fits = h .1 }
 
   merged-given : (ys : List ℕ) → Merged s pixels base residual table room ys → merge s pixels base residual table room ≡ given ys
   unfolding merge
   merged-given ys h =
-      rw (h .ranges, h .one, h .srgb, h .lengths, h .entries) (fits-given room (picture s pixels base residual table) ys (h .results) (h .fits))
+      rw (h .ranges, h .one, h .srgb, h .lengths, h .entries) (fits-given room (mergedPicture s pixels base residual table) ys (h .results) (h .fits))
 
 module _ (file : List ℕ) (room : ℕ) where
   listed-text : (ys : List ℕ) → listPackets file room ≡ given ys → Listed file room ys

@@ -15,10 +15,10 @@ use Rattle.kernel.specs.Cosines.{kernel}
 use Rattle.kernel.specs.Samples.{product, rowSum, doubleSum, rounded, sample, blockSamples}
 use Rattle.transform.specs.Zigzag.{zigzag, zigzagAt}
 use Rattle.transform.specs.Picture as blockwise
-use Rattle.transform.specs.Picture.{scaled, dequantised, centre}
+use Rattle.transform.specs.Picture.{timesQuantiser, dequantised, centre}
 use Rattle.transform.proofs.Lengths.{block-length}
 use Rattle.pixel.specs.Pixels.{component}
-use Rattle.merge.specs.Picture.{mergedAt, planes, picture}
+use Rattle.merge.specs.Picture.{mergedAt, planes, mergedPicture}
 use Rattle.demands.specs.Two.{sampleAt, SamplesAre, ResultsAre}
 
 -- ---- samples
@@ -27,9 +27,9 @@ module _ (values : List ℤ) (quantisers : List ℕ) (block : ℕ) where
   -- S of row frequency v and column frequency u
   one-product : (v u : ℕ) → v < 8 → u < 8
       → getD (dequantised values quantisers block) (v * 8 + u) (pos 0) ≡ getD values (block * 64 + zigzag v u) (pos 0) *ℤ pos (getD quantisers (zigzag v u) 0)
-  unfolding dequantised scaled zigzagAt
+  unfolding dequantised timesQuantiser zigzagAt
   one-product v u hv hu =
-      getD-tab 64 (λ p. scaled (getD values (block * 64 + zigzagAt p) (pos 0)) (getD quantisers (zigzagAt p) 0)) (pos 0) (v * 8 + u) (omega arith)
+      getD-tab 64 (λ p. timesQuantiser (getD values (block * 64 + zigzagAt p) (pos 0)) (getD quantisers (zigzagAt p) 0)) (pos 0) (v * 8 + u) (omega arith)
       ∙ rw (digits-div v hu, digits-mod v hu)
 
   one-sample : (refinement y x : ℕ) → sample (dequantised values quantisers block) (centre refinement) x y ≡ sampleAt refinement values quantisers block y x
@@ -49,7 +49,7 @@ samples-are refinement blocks values quantisers room ys h block y x hb hy hx =
 -- ---- merged results
 
 pub results-are : ResultsAre
-unfolding picture planes mergedAt
+unfolding mergedPicture planes mergedAt
 results-are s pixels base residual table room ys h k p hk hp =
     let at : ℕ → ℕ → ℕ = λ j q. component j (mergedAt s pixels base residual table q) in
     ap (λ (l : List ℕ). getD l (k * pixels + p) 0) (h .results)

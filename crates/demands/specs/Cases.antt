@@ -78,7 +78,7 @@ abbrev pub onlyDc : ℤ → Asked
 onlyDc s = transformed 0 1 (s ∷ replicate 63 (pos 0)) (replicate 64 1) 64
 
 abbrev pub everywhere : ℤ → Result
-everywhere sample = integers (given (replicate 64 sample))
+everywhere value = integers (given (replicate 64 value))
 
 -- "Rh 0", "Rb 4, straight"; at Rr 4 a residual is after step 4 what it was before
 abbrev pub setting : ℕ → Colour → Residual → Setting
@@ -97,14 +97,14 @@ setting components colour residual =
     }
 
 -- g. one pixel of one component, alone or with a residual
-abbrev pub alone : ℤ → Asked
-alone base = merged (setting 1 Identity Absent) 1 (base ∷ []) [] [] 1
+abbrev pub baseAlone : ℤ → Asked
+baseAlone base = merged (setting 1 Identity Absent) 1 (base ∷ []) [] [] 1
 
 abbrev pub with : ℤ → ℤ → Asked
 with base residual = merged (setting 1 Identity Present) 1 (base ∷ []) (residual ∷ []) [] 1
 
-abbrev pub sample : ℕ → Result
-sample n = naturals (given (n ∷ []))
+abbrev pub oneSample : ℕ → Result
+oneSample n = naturals (given (n ∷ []))
 
 -- ---- the whiteboard
 
@@ -128,10 +128,10 @@ whiteboard =
     -- f. "Rh 0: Y 100, Cb 128, Cr 138 gives 114, 93, 100"
     ∷ (firstStep (setting 3 Transform Absent) (triple (pos 100) (pos 128) (pos 138)) gives pixel (triple 114 93 100))
     -- g. "128 gives 2056; with residual 2050 after step 4, 2058; base 255 with 2100 gives 4095; base 0 with 2000 gives 0"
-    ∷ (alone (pos 128) gives sample 2056)
-    ∷ (with (pos 128) (pos 2050) gives sample 2058)
-    ∷ (with (pos 255) (pos 2100) gives sample 4095)
-    ∷ (with (pos 0) (pos 2000) gives sample 0)
+    ∷ (baseAlone (pos 128) gives oneSample 2056)
+    ∷ (with (pos 128) (pos 2050) gives oneSample 2058)
+    ∷ (with (pos 255) (pos 2100) gives oneSample 4095)
+    ∷ (with (pos 0) (pos 2000) gives oneSample 0)
     ∷ []
 
 -- every reading is what the whiteboard says

@@ -57,8 +57,8 @@ abbrev pub needed : ℕ → ℕ → ℕ → Type 0
 needed n room p = (p ≡ n) × (room < p)
 
 -- "block", one of those asked for
-abbrev pub blockOf : ℕ → ℕ → Type 0
-blockOf blocks p = p < blocks
+abbrev pub someBlock : ℕ → ℕ → Type 0
+someBlock blocks p = p < blocks
 
 -- "bytes read", of those lent
 abbrev pub readOf : List ℕ → ℕ → Type 0
@@ -128,7 +128,7 @@ dcReadRows plane blocks values bytes room =
     rows (20 ∷ 21 ∷ []) nowhere
     or rows (11 ∷ []) (First (length values) (inside Dc (plane - 1) values))
     or rows (9 ∷ []) (needed blocks room)
-    or rows (12 ∷ 13 ∷ []) (blockOf blocks)
+    or rows (12 ∷ 13 ∷ []) (someBlock blocks)
     or rows (18 ∷ []) (readOf bytes)
 
 unfoldable pub acReadRows : ℕ → ℕ → List ℤ → List ℕ → ℕ → Rows
@@ -136,7 +136,7 @@ acReadRows plane blocks values bytes room =
     rows (20 ∷ 21 ∷ 10 ∷ []) nowhere
     or rows (11 ∷ []) (First (length values) (inside Ac (plane - 1) values))
     or rows (9 ∷ []) (needed (63 * blocks) room)
-    or rows (12 ∷ 13 ∷ 14 ∷ 15 ∷ 16 ∷ 17 ∷ []) (blockOf blocks)
+    or rows (12 ∷ 13 ∷ 14 ∷ 15 ∷ 16 ∷ 17 ∷ []) (someBlock blocks)
     or rows (18 ∷ []) (readOf bytes)
 
 -- a listing has its text whatever the file: a walk's refusal, and 20 for a file over 64 KiB, stand in the text

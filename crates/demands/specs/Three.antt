@@ -36,7 +36,7 @@ unfoldable pub levelOf : ℕ → Both ℤ → ℕ → Both ℤ
 levelOf k full j = record { dc = atLevel downward k (full .dc) j; ac = atLevel towardZero k (full .ac) j }
 
 -- what the calls for one plane are lent: a code table, lengths of the destinations for the bytes and for the values read
-pub record Lent : Type 0 where
+pub record Provided : Type 0 where
   pub table : Table
   pub dcRoom : ℕ
   pub acRoom : ℕ
@@ -44,7 +44,7 @@ pub record Lent : Type 0 where
   pub acSpace : ℕ
 
 -- "given room and code tables that hold every code needed"
-pub record Enough (n : ℕ) (values : Both ℤ) (lent : Lent) : Type 0 where
+pub record Enough (n : ℕ) (values : Both ℤ) (lent : Provided) : Type 0 where
   pub good : goodTable (lent .table) ≡ true
   pub codes : lacking (lent .table) (tokens n (values .ac)) ≡ Nothing
   pub dcRoom : length (dcBytes (values .dc)) ≤ lent .dcRoom
@@ -59,16 +59,16 @@ together (given dc) (refused r) = none
 together (refused r) other = none
 
 -- plane j, written with our writer
-unfoldable pub writePlane : ℕ → ℕ → Lent → Both ℤ → Option (Both ℕ)
+unfoldable pub writePlane : ℕ → ℕ → Provided → Both ℤ → Option (Both ℕ)
 writePlane j n lent values = together (writeDc j n (values .dc) (lent .dcRoom)) (writeAc j n (lent .table) (values .ac) (lent .acRoom))
 
 -- plane j, read over the values that were there before
-unfoldable pub readPlane : ℕ → ℕ → Lent → Both ℕ → Both ℤ → Option (Both ℤ)
+unfoldable pub readPlane : ℕ → ℕ → Provided → Both ℕ → Both ℤ → Option (Both ℤ)
 readPlane j n lent bytes values =
     together (readDc j n (values .dc) (bytes .dc) (lent .dcSpace)) (readAc j n (lent .table) (values .ac) (bytes .ac) (lent .acSpace))
 
 -- what is demanded of these blocks
-pub record Refined (k n : ℕ) (full : Both ℤ) (lent : ℕ → Lent) : Type 0 where
+pub record Refined (k n : ℕ) (full : Both ℤ) (lent : ℕ → Provided) : Type 0 where
   -- the bytes of each plane
   pub plane : ℕ → Both ℕ
   -- "Each plane is accepted": plane j of the values of level j
@@ -83,8 +83,8 @@ pub record Refined (k n : ℕ) (full : Both ℤ) (lent : ℕ → Lent) : Type 0 
 -- the demand
 abbrev pub DemandThree : Type 0
 DemandThree =
-    (k n : ℕ) (full : Both ℤ) (lent : ℕ → Lent) → k ≤ 4 → Within k n full → ((j : ℕ) → 1 ≤ j → j ≤ k → Enough n (levelOf k full j) (lent j)) → Refined k n full lent
+    (k n : ℕ) (full : Both ℤ) (lent : ℕ → Provided) → k ≤ 4 → Within k n full → ((j : ℕ) → 1 ≤ j → j ≤ k → Enough n (levelOf k full j) (lent j)) → Refined k n full lent
 
 -- its conditions can be met: whatever the values, there is a table that holds every code needed, and room
 abbrev pub CanBeMet : Type 0
-CanBeMet = (n : ℕ) (values : Both ℤ) → (lent : Lent) × Enough n values lent
+CanBeMet = (n : ℕ) (values : Both ℤ) → (lent : Provided) × Enough n values lent

@@ -34,7 +34,7 @@ use Rattle.pixel.specs.declared.Setting.{Setting}
 use Rattle.pixel.specs.Pixels.{component}
 use Rattle.pixel.specs.Steps.{merged}
 use Rattle.settings.specs.Tests.{inRanges, plain, srgbAllowed, lengthsRight, entryRight}
-use Rattle.merge.specs.Picture.{pixelAt, picture, merge}
+use Rattle.merge.specs.Picture.{pixelAt, mergedPicture, merge}
 
 -- what was written is right; and where 01 has values, these were written
 pub record Exactly {A : Type 0} (Right : List A → Type 0) (after : List A) (answer : Answer) : Type 0 where
@@ -105,7 +105,7 @@ pub record Merged (s : Setting) (pixels : ℕ) (base residual : List ℤ) (table
   pub srgb : srgbAllowed s ≡ true
   pub lengths : lengthsRight s pixels base residual table ≡ true
   pub entries : firstFail (length table) (entryRight (top (s .rb)) table) ≡ Nothing
-  pub results : ys ≡ picture s pixels base residual table
+  pub results : ys ≡ mergedPicture s pixels base residual table
   pub fits : length ys ≤ room
 
 -- ---- the demand: whatever is lent, a call that meets its promise

@@ -45,13 +45,13 @@ unfoldable pub answer : ℕ → ℕ → List ℕ
 answer n p = 97 ∷ 110 ∷ 115 ∷ 119 ∷ 101 ∷ 114 ∷ 32 ∷ (dec n ++ (32 ∷ (dec p ++ (10 ∷ []))))
 
 -- "a refused walk gives the header and `answer` with number and place only"
-abbrev pub afterWalk : Outcome → List ℕ → List ℕ
-afterWalk (Given count) ls = ls ++ answer 0 0
-afterWalk (Refused r) ls = answer (r .number) (r .place)
+abbrev pub textAfter : Outcome → List ℕ → List ℕ
+textAfter (Given count) ls = ls ++ answer 0 0
+textAfter (Refused r) ls = answer (r .number) (r .place)
 
 -- "a file of at most 64 KiB"; "A longer input gives the header and `answer 20 0`"
 unfoldable pub listing : List ℕ → List ℕ
-listing file = header ++ cond (ltb 65536 (length file)) (answer 20 0) (afterWalk (ending (walk file)) (lines (packets file)))
+listing file = header ++ cond (ltb 65536 (length file)) (answer 20 0) (textAfter (ending (walk file)) (lines (packets file)))
 
 -- the listing in a lent buffer
 unfoldable pub listPackets : List ℕ → ℕ → Verdict ℕ

@@ -9,7 +9,7 @@ use Rattle.laws.proofs.Spread.{Spread, spread-start, spread-at, spread-turn, sp
 use Rattle.pixel.specs.declared.Setting.{Setting}
 use Rattle.pixel.specs.Pixels.{single, triple, component}
 use Rattle.settings.specs.Tests.{samples}
-use Rattle.merge.specs.Picture.{mergedAt, planes, picture}
+use Rattle.merge.specs.Picture.{mergedAt, planes, mergedPicture}
 
 module _ (s : Setting) (n : ℕ) (base residual : List ℤ) (table : List ℕ) where
   -- the sample of component k of pixel p
@@ -45,6 +45,6 @@ module _ (s : Setting) (n : ℕ) (base residual : List ℤ) (table : List ℕ) w
           let z = spread-at 0 (s .components) n sample d y h (omega arith) room (n + n + p) c (omega arith) (sym (ap (component 2) g)) in
           record { within = omega arith; spread = spread-turn 0 (s .components) n sample d z (omega arith) }
 
-      pub filling-end : n ≤ p → e ≡ picture s n base residual table ++ drop (samples s n) d
-      unfolding picture planes sample
+      pub filling-end : n ≤ p → e ≡ mergedPicture s n base residual table ++ drop (samples s n) d
+      unfolding mergedPicture planes sample
       filling-end h = spread-end 0 (s .components) n sample d (f .spread) h room

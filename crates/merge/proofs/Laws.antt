@@ -9,7 +9,7 @@ use lib.ListN.{getD}
 use Rattle.pixel.specs.declared.Setting.{Setting}
 use Rattle.pixel.specs.declared.Residual.the-variants.{Absent, Present}
 use Rattle.pixel.specs.Pixels.{Pixel, single, triple, each, both}
-use Rattle.pixel.specs.Steps.{scaled, stepFour, added, alone, joined, stepFive, basis, merged}
+use Rattle.pixel.specs.Steps.{scaled, stepFour, added, alone, withResidual, stepFive, basis, merged}
 use Rattle.pixel.proofs.Laws.{four-single}
 use Rattle.settings.specs.Tests.{samples}
 use Rattle.merge.specs.Picture.{pixelAt, mergedAt}
@@ -42,19 +42,19 @@ pixel-three c n xs p e = rw (ne-eqb c 1 (λ q. omega arith))
 module _ (s : Setting) (n : ℕ) (base residual : List ℤ) (table : List ℕ) (p : ℕ) where
   module _ (e : s .components ≡ 1) (b : ℤ) (h : single b ≡ basis s table (single (getD base p (pos 0)))) where
     pub one-alone : s .residual ≡ Absent → single (alone (s .rb) b) ≡ mergedAt s n base residual table p
-    unfolding mergedAt merged stepFive joined each
+    unfolding mergedAt merged stepFive withResidual each
     one-alone q = rw (pixel-one (s .components) n base p e, ← h, q)
 
     pub one-added : s .residual ≡ Present → single (added (s .rb) b (scaled (s .rb) (s .rr) (getD residual p (pos 0)))) ≡ mergedAt s n base residual table p
-    unfolding mergedAt merged stepFive joined both
+    unfolding mergedAt merged stepFive withResidual both
     one-added q = rw (pixel-one (s .components) n base p e, pixel-one (s .components) n residual p e, ← h, q, four-single)
 
   module _ (e : s .components ≡ 3) (b : Pixel ℤ) (h : b ≡ basis s table (triple (getD base p (pos 0)) (getD base (n + p) (pos 0)) (getD base (n + n + p) (pos 0)))) where
     pub three-alone : s .residual ≡ Absent → each (alone (s .rb)) b ≡ mergedAt s n base residual table p
-    unfolding mergedAt merged stepFive joined
+    unfolding mergedAt merged stepFive withResidual
     three-alone q = rw (pixel-three (s .components) n base p e, ← h, q)
 
     pub three-added : (r : Pixel ℤ) → r ≡ stepFour s (triple (getD residual p (pos 0)) (getD residual (n + p) (pos 0)) (getD residual (n + n + p) (pos 0)))
         → s .residual ≡ Present → both (added (s .rb)) b r ≡ mergedAt s n base residual table p
-    unfolding mergedAt merged stepFive joined
+    unfolding mergedAt merged stepFive withResidual
     three-added r g q = rw (pixel-three (s .components) n base p e, pixel-three (s .components) n residual p e, ← h, ← g, q)

@@ -13,11 +13,11 @@ use Rattle.answers.specs.Verdict.{given, refused, refusal}
 use Rattle.rounding.specs.Near.{top}
 use Rattle.pixel.specs.declared.Setting.{Setting}
 use Rattle.settings.specs.Tests.{inRanges, plain, srgbAllowed, lengthsRight, entryRight, samples}
-use Rattle.merge.specs.Picture.{planes, picture, merge}
+use Rattle.merge.specs.Picture.{planes, mergedPicture, merge}
 
 module _ (s : Setting) (n : ℕ) (base residual : List ℤ) (table : List ℕ) (room : ℕ) where
-  pub picture-long : length (picture s n base residual table) ≡ samples s n
-  unfolding picture planes
+  pub picture-long : length (mergedPicture s n base residual table) ≡ samples s n
+  unfolding mergedPicture planes
   picture-long = join-length n (s .components) _ (λ k. length-tab n _)
 
   pub no-range : inRanges s n ≡ false → merge s n base residual table room ≡ refused (refusal 20 0)
@@ -49,6 +49,6 @@ module _ (s : Setting) (n : ℕ) (base residual : List ℤ) (table : List ℕ) (
             unfolding merge
             no-room h = rw (h₁, h₂, h₃, h₄, h₅, picture-long, lt-leb (samples s n) room h)
 
-            pub all-right : samples s n ≤ room → merge s n base residual table room ≡ given (picture s n base residual table)
+            pub all-right : samples s n ≤ room → merge s n base residual table room ≡ given (mergedPicture s n base residual table)
             unfolding merge
             all-right h = rw (h₁, h₂, h₃, h₄, h₅, picture-long, le-leb (samples s n) room h)

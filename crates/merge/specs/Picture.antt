@@ -30,8 +30,8 @@ mergedAt s pixels base residual table p = merged s table (pixelAt (s .components
 unfoldable pub planes : ℕ → ℕ → (ℕ → Pixel ℕ) → List ℕ
 planes components pixels pixel = joinTo components (λ k. tab pixels (λ p. component k (pixel p)))
 
-unfoldable pub picture : Setting → ℕ → List ℤ → List ℤ → List ℕ → List ℕ
-picture s pixels base residual table = planes (s .components) pixels (mergedAt s pixels base residual table)
+unfoldable pub mergedPicture : Setting → ℕ → List ℤ → List ℤ → List ℕ → List ℕ
+mergedPicture s pixels base residual table = planes (s .components) pixels (mergedAt s pixels base residual table)
 
 -- ---- the call: "Merge: 20, 21, 11, 9"
 
@@ -42,4 +42,4 @@ merge s pixels base residual table room =
     (need (srgbAllowed s) 20 0
     (need (lengthsRight s pixels base residual table) 21 0
     (unless 11 (firstFail (length table) (entryRight (top (s .rb)) table))
-    (fitting room (picture s pixels base residual table))))))
+    (fitting room (mergedPicture s pixels base residual table))))))

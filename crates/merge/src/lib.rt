@@ -6,7 +6,7 @@ ghost use lib.ListN.{length, drop};
 ghost use Rattle.answers.specs.Verdict.{Meets, Tried};
 ghost use Rattle.pixel.specs.Pixels.{single, samplesOf};
 ghost use Rattle.settings.specs.Tests.{samples, Lending};
-ghost use Rattle.merge.specs.Picture.{mergedAt, picture, merge};
+ghost use Rattle.merge.specs.Picture.{mergedAt, mergedPicture, merge};
 
 // Pixel p of the result, for one component.
 fn one_at(
@@ -66,7 +66,7 @@ fn fill_one(
 )
     requires { ⌜ Lending s pixels (now base) (now residual) (now table) ⌝ }
     requires { ⌜ (s .components ≡ 1) × (samples s pixels ≤ length (now destination)) ⌝ }
-    ensures { λ r. ⌜ now (destination .exit) ≡ picture s pixels (now (base .entry)) (now (residual .entry)) (now (table .entry)) ++ drop (samples s pixels) (now (destination .entry)) ⌝ }
+    ensures { λ r. ⌜ now (destination .exit) ≡ mergedPicture s pixels (now (base .entry)) (now (residual .entry)) (now (table .entry)) ++ drop (samples s pixels) (now (destination .entry)) ⌝ }
 {
     let mut p = 0;
     while p < pixels {
@@ -87,7 +87,7 @@ fn fill_three(
 )
     requires { ⌜ Lending s pixels (now base) (now residual) (now table) ⌝ }
     requires { ⌜ (s .components ≡ 3) × (samples s pixels ≤ length (now destination)) ⌝ }
-    ensures { λ r. ⌜ now (destination .exit) ≡ picture s pixels (now (base .entry)) (now (residual .entry)) (now (table .entry)) ++ drop (samples s pixels) (now (destination .entry)) ⌝ }
+    ensures { λ r. ⌜ now (destination .exit) ≡ mergedPicture s pixels (now (base .entry)) (now (residual .entry)) (now (table .entry)) ++ drop (samples s pixels) (now (destination .entry)) ⌝ }
 {
     let mut p = 0;
     while p < pixels {

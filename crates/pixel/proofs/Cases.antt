@@ -16,7 +16,7 @@ use Rattle.pixel.specs.declared.Residual.the-variants.{Absent, Present}
 use Rattle.pixel.specs.Pixels.{Pixel, single, triple, each, both}
 use Rattle.curves.specs.Srgb.{srgb}
 use Rattle.curves.specs.Curves.{straight, curved}
-use Rattle.pixel.specs.Steps.{tinted, tints, transform, recolour, firstCentre, stepOne, stepTwo, weighted, matrixed, stepThree, scaled, stepFour, added, alone, joined, stepFive, basis, merged}
+use Rattle.pixel.specs.Steps.{tinted, tints, transform, recolour, firstCentre, stepOne, stepTwo, weighted, matrixed, stepThree, scaled, stepFour, added, alone, withResidual, stepFive, basis, merged}
 
 -- a straight merge with three components
 pub straightWith : ℕ → ℕ → ℕ → Colour → Matrix → Residual → Colour → Setting
@@ -41,13 +41,13 @@ case-f = refl
 
 -- g. "Rb 4, straight: 128 gives 2056; with residual 2050 after step 4, 2058; base 255 with 2100 gives 4095; base 0 with 2000 gives 0"
 pub case-g-alone : merged (straightWith 4 0 0 Identity None Absent Identity) [] (single (pos 128)) (single (pos 0)) ≡ single 2056
-unfolding straightWith merged basis stepOne stepTwo stepThree stepFour stepFive recolour firstCentre curved straight matrixed scaled joined alone each both nearest clip
+unfolding straightWith merged basis stepOne stepTwo stepThree stepFour stepFive recolour firstCentre curved straight matrixed scaled withResidual alone each both nearest clip
 case-g-alone = refl
 
 pub case-g-added : map (λ (p : Pixel ℤ × Pixel ℤ). stepFive (straightWith 4 0 0 Identity None Present Identity) (basis (straightWith 4 0 0 Identity None Present Identity) [] (p .0)) (p .1))
     ((single (pos 128), single (pos 2050)) ∷ (single (pos 255), single (pos 2100)) ∷ (single (pos 0), single (pos 2000)) ∷ [])
     ≡ single 2058 ∷ single 4095 ∷ single 0 ∷ []
-unfolding straightWith basis stepOne stepTwo stepThree stepFive recolour firstCentre curved straight matrixed joined added each both nearest clip
+unfolding straightWith basis stepOne stepTwo stepThree stepFive recolour firstCentre curved straight matrixed withResidual added each both nearest clip
 case-g-added = refl
 
 -- h. "sRGB: 0, 1, 10, 255 give 0, 20, 199, 65535"
@@ -62,7 +62,7 @@ not-clipped-before = refl
 
 -- without a residual a matrix can leave the range on both sides, and the result is clipped
 pub clipped-alone : merged (straightWith 1 0 0 Identity On Absent Identity) [] (triple (pos 255) (pos 255) (pos 255)) (triple (pos 0) (pos 0) (pos 0)) ≡ triple 0 256 0
-unfolding straightWith merged basis stepOne stepTwo stepThree stepFour stepFive recolour firstCentre curved straight matrixed weighted scaled joined alone each both nearest row clip
+unfolding straightWith merged basis stepOne stepTwo stepThree stepFour stepFive recolour firstCentre curved straight matrixed weighted scaled withResidual alone each both nearest row clip
 clipped-alone = refl
 
 -- the residual's centre is 2^(7+Rb): grey at Rb 4 stays grey through its transform

@@ -85,12 +85,12 @@ added rb b r = clip (b +ℤ r -ℤ pos (2 ^ (7 + rb))) (top rb)
 unfoldable pub alone : ℕ → ℤ → ℕ
 alone rb b = clip b (top rb)
 
-unfoldable pub joined : Residual → ℕ → Pixel ℤ → Pixel ℤ → Pixel ℕ
-joined Absent rb base residual = each (alone rb) base
-joined Present rb base residual = both (added rb) base residual
+unfoldable pub withResidual : Residual → ℕ → Pixel ℤ → Pixel ℤ → Pixel ℕ
+withResidual Absent rb base residual = each (alone rb) base
+withResidual Present rb base residual = both (added rb) base residual
 
 unfoldable pub stepFive : Setting → Pixel ℤ → Pixel ℤ → Pixel ℕ
-stepFive s base residual = joined (s .residual) (s .rb) base residual
+stepFive s base residual = withResidual (s .residual) (s .rb) base residual
 
 -- ---- the steps joined
 

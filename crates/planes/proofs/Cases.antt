@@ -11,7 +11,7 @@ use Rattle.levels.specs.Level.{inLevel, isDc, inside, firstOutside}
 use Rattle.bits.specs.Digits.{digits}
 use Rattle.bits.specs.Source.{opened, afterFF, nextByte, takeFrom, takeBit, onlyPadding}
 use Rattle.bits.specs.Pack.{stuffed, padded, packed}
-use Rattle.codes.specs.Table.{Table, table, total, kraft, holds, distinct, goodTable}
+use Rattle.codes.specs.Table.{Table, table, codeCount, kraft, holds, distinct, goodTable}
 use Rattle.codes.specs.Read.{codeFrom, takeCode}
 use Rattle.codes.specs.Write.{placeOf}
 use Rattle.planes.specs.Plane.{onto, closed}
@@ -50,7 +50,7 @@ readings =
     ∷ []
 
 pub case-c : map (λ (r : Reading). readAc 1 1 (r .codes) (r .values) (r .bytes) 63) readings ≡ map (λ (r : Reading). r .verdict) readings
-unfolding every firstFail orHere inLevel isDc inside firstOutside digits opened afterFF nextByte takeFrom takeBit onlyPadding total kraft holds distinct goodTable codeFrom takeCode onto closed takeNumber endRun meaning taskAt position blockEnd acBlock cut acBlocks readAc
+unfolding every firstFail orHere inLevel isDc inside firstOutside digits opened afterFF nextByte takeFrom takeBit onlyPadding codeCount kraft holds distinct goodTable codeFrom takeCode onto closed takeNumber endRun meaning taskAt position blockEnd acBlock cut acBlocks readAc
 case-c = refl
 
 -- "DC 5, -1, 0, data BF: 11, -2, 1."
@@ -65,7 +65,7 @@ case-d-write = refl
 
 -- "writer's table lacks a code: the code's value": a new value at position 1 needs 01
 pub lacking-code : writeAc 1 1 (table (0 ∷ 2 ∷ replicate 14 0) (0x00 ∷ 0xf0 ∷ [])) (block (pos 1)) 8 ≡ refused (refusal 19 1)
-unfolding every firstFail orHere inLevel isDc inside firstOutside digits total kraft holds distinct goodTable placeOf cut kindOf oneMore ahead quiet plan order emit writeBlock writeBlocks tokens lacking writeAc
+unfolding every firstFail orHere inLevel isDc inside firstOutside digits codeCount kraft holds distinct goodTable placeOf cut kindOf oneMore ahead quiet plan order emit writeBlock writeBlocks tokens lacking writeAc
 lacking-code = refl
 
 -- "Halving a negative AC downward: -3 must give -1, not -2."; DC is halved downward

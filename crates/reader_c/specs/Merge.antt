@@ -64,10 +64,10 @@ settingOf rb rh rr components base curve matrixOn matrix residualOn transform =
     }
 
 -- 20 before 21, and 0 where neither is given
-unfoldable pub barred : Bool → Setting → ℕ → List ℤ → ℕ
-barred named s pixels matrix =
+unfoldable pub settingNumber : Bool → Setting → ℕ → List ℤ → ℕ
+settingNumber named s pixels matrix =
     cond (every (named ∷ inRanges s pixels ∷ plain s ∷ srgbAllowed s ∷ [])) (cond (eqb (length matrix) (matrixCount (s .matrix))) 0 21) 20
 
 unfoldable pub mergeCall : Bool → Setting → ℕ → List ℤ → List ℤ → List ℕ → List ℤ → ℕ → Verdict ℕ
 mergeCall named s pixels base residual table matrix room =
-    need (eqb (barred named s pixels matrix) 0) (barred named s pixels matrix) 0 (merge s pixels base residual table room)
+    need (eqb (settingNumber named s pixels matrix) 0) (settingNumber named s pixels matrix) 0 (merge s pixels base residual table room)

@@ -10,7 +10,7 @@ ghost use Rattle.planes.specs.Dc.{readDc, writeDc};
 ghost use Rattle.planes.specs.AcRead.{readAc};
 ghost use Rattle.planes.specs.AcWrite.{writeAc};
 ghost use Rattle.listing_text.specs.Text.{listPackets};
-ghost use Rattle.reader_c.specs.Merge.{colourOf, curveOf, matrixOf, residualOf, known, matrixCount, weightsOf, settingOf, barred, mergeCall};
+ghost use Rattle.reader_c.specs.Merge.{colourOf, curveOf, matrixOf, residualOf, known, matrixCount, weightsOf, settingOf, settingNumber, mergeCall};
 ghost use Rattle.transform.specs.Call.{inverseTransform};
 
 // One box, assembled from its packets.
@@ -215,8 +215,8 @@ fn weights_of(matrix: &[i16]) -> [i16; 9]
 }
 
 // 20 or 21 by what only this call tests, or 0.
-fn barred(named: bool, s: pixel::Setting, pixels: usize, matrix: &[i16]) -> u32
-    ensures { λ r. ⌜ r ≡ barred named s pixels (now (matrix .entry)) ⌝ }
+fn setting_number(named: bool, s: pixel::Setting, pixels: usize, matrix: &[i16]) -> u32
+    ensures { λ r. ⌜ r ≡ settingNumber named s pixels (now (matrix .entry)) ⌝ }
 {
     if !named {
         return 20;
@@ -250,7 +250,7 @@ fn merge_or_not(
 ) -> answers::Answer
     ensures { λ r. ⌜ Meets 0 (mergeCall named s pixels (now (base .entry)) (now (residual .entry)) (now (table .entry)) (now (matrix .entry)) (length (now (destination .entry)))) (now (destination .entry)) (now (destination .exit)) r ⌝ }
 {
-    let number = barred(named, s, pixels, matrix);
+    let number = setting_number(named, s, pixels, matrix);
     if number != 0 {
         answers::clear_u16(destination);
         return answers::Answer { number, place: 0 };

@@ -8,7 +8,7 @@ ghost use lib.ListN.{length};
 ghost use lib.Dec.{eqb};
 ghost use Rattle.laws.specs.First.{firstFail};
 ghost use Rattle.tallies.specs.Wanted.{wanted, isWanted, sameValue, right as Wanted·right};
-ghost use Rattle.tallies.specs.Runs.{goesOn, counted as Runs·counted, begun as Runs·begun, after as Runs·after};
+ghost use Rattle.tallies.specs.Runs.{goesOn, counted as Runs·counted, begun as Runs·begun, nextRun};
 
 // A record was run: whether it was right, and where the next one stands.
 pub struct Ran {
@@ -176,8 +176,8 @@ fn goes_on(left: usize, group: usize, next: usize) -> bool
 }
 
 // Behind a record that was run. The line of its group is written if it was the last one.
-pub fn after(bytes: &[u8], r: Run, ran: Ran) -> Run
-    ensures { λ s. ⌜ s ≡ Runs·after (now (bytes .entry)) r ran ⌝ }
+pub fn next_run(bytes: &[u8], r: Run, ran: Ran) -> Run
+    ensures { λ s. ⌜ s ≡ nextRun (now (bytes .entry)) r ran ⌝ }
 {
     let c = counted(r, ran.good);
     let group = records::number_at(bytes, ran.next);

@@ -12,7 +12,7 @@ use Rattle.laws.proofs.Integers.{abs-prod-le, split}
 use Rattle.laws.proofs.Lists.{length-tab, getD-tab, join-length}
 use Rattle.kernel.specs.Samples.{blockSamples, Products}
 use Rattle.transform.specs.Zigzag.{zigzagAt}
-use Rattle.transform.specs.Picture.{scaled, dequantised, centre, picture, InRange}
+use Rattle.transform.specs.Picture.{timesQuantiser, dequantised, centre, picture, InRange}
 
 pub block-length : (s : List ℤ) (middle : ℤ) → length (blockSamples s middle) ≡ 64
 unfolding blockSamples
@@ -24,10 +24,10 @@ picture-length refinement blocks values quantisers = join-length 64 blocks _ (λ
 
 module _ (values : List ℤ) (quantisers : List ℕ) (block : ℕ) (h : InRange values quantisers) where
   one : ℕ → ℤ
-  one p = scaled (getD values (block * 64 + zigzagAt p) (pos 0)) (getD quantisers (zigzagAt p) 0)
+  one p = timesQuantiser (getD values (block * 64 + zigzagAt p) (pos 0)) (getD quantisers (zigzagAt p) 0)
 
   one-small : (p : ℕ) → natAbs (one p) ≤ 2 ^ 23
-  unfolding one scaled
+  unfolding one timesQuantiser
   one-small p =
       let i = block * 64 + zigzagAt p in
       let z = zigzagAt p in

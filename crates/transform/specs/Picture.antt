@@ -9,13 +9,13 @@ use Rattle.kernel.specs.Samples.{blockSamples}
 use Rattle.transform.specs.Zigzag.{zigzagAt}
 
 -- "Let S be the value times its quantiser."
-unfoldable pub scaled : ℤ → ℕ → ℤ
-scaled value quantiser = value *ℤ pos quantiser
+unfoldable pub timesQuantiser : ℤ → ℕ → ℤ
+timesQuantiser value quantiser = value *ℤ pos quantiser
 
 -- a block's 64 S, row by row; values are lent "in zigzag order: 64 a block", quantisers "in the same zigzag order"
 unfoldable pub dequantised : List ℤ → List ℕ → ℕ → List ℤ
 dequantised values quantisers block =
-    tab 64 (λ p. scaled (getD values (block * 64 + zigzagAt p) (pos 0)) (getD quantisers (zigzagAt p) 0))
+    tab 64 (λ p. timesQuantiser (getD values (block * 64 + zigzagAt p) (pos 0)) (getD quantisers (zigzagAt p) 0))
 
 -- "2^(7+R), R being Rh or Rr"
 unfoldable pub centre : ℕ → ℤ

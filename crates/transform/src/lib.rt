@@ -7,7 +7,7 @@ ghost use lib.ListN.{length, take, drop};
 ghost use Rattle.answers.specs.Verdict.{Meets, Tried};
 ghost use Rattle.kernel.specs.Samples.{blockSamples};
 ghost use Rattle.transform.specs.Zigzag.{zigzagOrder};
-ghost use Rattle.transform.specs.Picture.{scaled, dequantised, centre, picture, InRange};
+ghost use Rattle.transform.specs.Picture.{timesQuantiser, dequantised, centre, picture, InRange};
 ghost use Rattle.transform.specs.Call.{isQuantiser, firstBadQuantiser, inverseTransform};
 use answers::Answer;
 use answers::Outcome;
@@ -94,8 +94,8 @@ fn centre(refinement: usize) -> i64
 }
 
 // A value times its quantiser: any two of them fit.
-fn scaled(value: i32, quantiser: u16) -> i64
-    ensures { λ r. ⌜ r ≡ scaled value quantiser ⌝ }
+fn times_quantiser(value: i32, quantiser: u16) -> i64
+    ensures { λ r. ⌜ r ≡ timesQuantiser value quantiser ⌝ }
 {
     (value as i64) * (quantiser as i64)
 }
@@ -110,7 +110,7 @@ fn dequantise(order: &[usize], values: &[i32], quantisers: &[u16], block: usize,
     while p < 64 {
         let z = order[p];
         let i = block * 64 + z;
-        let w = scaled(values[i], quantisers[z]);
+        let w = times_quantiser(values[i], quantisers[z]);
         s[p] = w;
         p += 1;
     }

@@ -91,7 +91,7 @@ fn run_all(bytes: &[u8]) {
     let mut run = tallies::begun(bytes);
     while 0 < run.left {
         let ran = run_record(bytes, run.at);
-        run = tallies::after(bytes, run, ran);
+        run = tallies::next_run(bytes, run, ran);
     }
 }
 

@@ -12,7 +12,7 @@ abbrev μ-loop : tie.MeasureT-loop
 μ-loop bytes run₀ run = run .left
 
 loop-less : tie.Need-loop-less Inv-loop μ-loop
-loop-less c = after-less _ _ _ (c .after .ensures) (c .before .before .if1 .taken)
+loop-less c = after-less _ _ _ (c .next-run .ensures) (c .before .before .if1 .taken)
 
 pub run-all-spec : {M : Type 1} → statement M
 run-all-spec =

@@ -24,19 +24,19 @@ returns-4 : tie.Need-returns-4
 unfolding goodTable every
 returns-4 c =
     let b = c .before .before in
-    rw (eq-eqb _ _ (b .before .before .if1 .left), le-leb _ _ (b .before .if2 .left), le-leb _ _ (b .if3 .left), ← (c .before .total-of .ensures), ne-eqb _ _ (c .if4 .taken))
+    rw (eq-eqb _ _ (b .before .before .if1 .left), le-leb _ _ (b .before .if2 .left), le-leb _ _ (b .if3 .left), ← (c .before .code-count .ensures), ne-eqb _ _ (c .if4 .taken))
 
 returns-5 : tie.Need-returns-5
 unfolding goodTable every
 returns-5 c =
     let b = c .before .before .before .before in
-    rw (eq-eqb _ _ (b .before .before .if1 .left), le-leb _ _ (b .before .if2 .left), le-leb _ _ (b .if3 .left), ← (c .before .before .before .total-of .ensures), eq-eqb _ _ (c .before .before .if4 .left), ← (c .before .kraft-of .ensures), lt-leb _ _ (c .if5 .taken))
+    rw (eq-eqb _ _ (b .before .before .if1 .left), le-leb _ _ (b .before .if2 .left), le-leb _ _ (b .if3 .left), ← (c .before .before .before .code-count .ensures), eq-eqb _ _ (c .before .before .if4 .left), ← (c .before .kraft-of .ensures), lt-leb _ _ (c .if5 .taken))
 
 returns-6 : tie.Need-returns-6
 unfolding goodTable every
 returns-6 c =
     let b = c .before .before .before .before .before in
-    rw (eq-eqb _ _ (b .before .before .if1 .left), le-leb _ _ (b .before .if2 .left), le-leb _ _ (b .if3 .left), ← (c .before .before .before .before .total-of .ensures), eq-eqb _ _ (c .before .before .before .if4 .left), ← (c .before .before .kraft-of .ensures), le-leb _ _ (c .before .if5 .left))
+    rw (eq-eqb _ _ (b .before .before .if1 .left), le-leb _ _ (b .before .if2 .left), le-leb _ _ (b .if3 .left), ← (c .before .before .before .before .code-count .ensures), eq-eqb _ _ (c .before .before .before .if4 .left), ← (c .before .before .kraft-of .ensures), le-leb _ _ (c .before .if5 .left))
     (c .all-distinct .ensures ∙ sym (every-last _))
 
 pub good-table-spec : {M : Type 1} → statement M

@@ -11,7 +11,7 @@ use Rattle.laws.specs.First.{firstFail}
 use Rattle.answers.proofs.Laws.{tried-refused, tried-given}
 use Rattle.answers.specs.declared.Outcome.the-variants.{Given}
 use Rattle.rounding.specs.Near.{top}
-use Rattle.merge.specs.Picture.{picture}
+use Rattle.merge.specs.Picture.{mergedPicture}
 use Rattle.settings.specs.Tests.{inRanges, plain, srgbAllowed, lengthsRight, entryRight, Ranged, Lending}
 use Rattle.settings.proofs.Laws.{ranged, lending, one-or-three, count-small}
 use Rattle.merge.proofs.Order.{no-range, not-plain, no-srgb, no-lengths, too-large, no-room, all-right, picture-long}
@@ -104,7 +104,7 @@ returns-7 c =
     let a = start (l .before .before) .args in
     let long = picture-long (a .s) (a .pixels) (a .base .now) (a .residual .now) (a .table .now) (length (a .destination .now)) in
     tried-given (ap Given (sym long)) (all-right _ _ _ _ _ _ (passed-1 (l .before .before .before .before .before .before .before .before)) (passed-2 (l .before .before .before .before .before .before)) (passed-3 (l .before .before .before .before)) (passed-4 (l .before .before)) (searched l ∙ at-enum-told .enum-told .given .1) (at-if5 .if5 .left))
-    (at-fill-one .fill-one .ensures ∙ ap (λ k. picture (a .s) (a .pixels) (a .base .now) (a .residual .now) (a .table .now) ++ drop k (a .destination .now)) (sym long))
+    (at-fill-one .fill-one .ensures ∙ ap (λ k. mergedPicture (a .s) (a .pixels) (a .base .now) (a .residual .now) (a .table .now) ++ drop k (a .destination .now)) (sym long))
 
 three : (c : tie.Else4) → (start c .args .s .components ≡ 1 → ⊥) → start c .args .s .components ≡ 3
 unfolding start
@@ -124,7 +124,7 @@ returns-8 c =
     let a = start (l .before .before) .args in
     let long = picture-long (a .s) (a .pixels) (a .base .now) (a .residual .now) (a .table .now) (length (a .destination .now)) in
     tried-given (ap Given (sym long)) (all-right _ _ _ _ _ _ (passed-1 (l .before .before .before .before .before .before .before .before)) (passed-2 (l .before .before .before .before .before .before)) (passed-3 (l .before .before .before .before)) (passed-4 (l .before .before)) (searched l ∙ at-enum-told .enum-told .given .1) (at-if5 .if5 .left))
-    (at-fill-three .fill-three .ensures ∙ ap (λ k. picture (a .s) (a .pixels) (a .base .now) (a .residual .now) (a .table .now) ++ drop k (a .destination .now)) (sym long))
+    (at-fill-three .fill-three .ensures ∙ ap (λ k. mergedPicture (a .s) (a .pixels) (a .base .now) (a .residual .now) (a .table .now) ++ drop k (a .destination .now)) (sym long))
 
 pub try-merge-spec : {M : Type 1} → statement M
 try-merge-spec =

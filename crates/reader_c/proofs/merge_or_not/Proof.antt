@@ -9,12 +9,12 @@ use Rattle.reader_c.proofs.merge_or_not.Tie as tie
 returns : tie.Need-returns
 unfolding mergeCall
 returns c =
-    rw (← (c .before .before .before .before .before .barred .ensures), ne-eqb _ _ (c .before .before .before .before .if1 .taken))
+    rw (← (c .before .before .before .before .before .setting-number .ensures), ne-eqb _ _ (c .before .before .before .before .if1 .taken))
     (record { answered = refl; held = c .before .before .clear-u16 .ensures })
 
 returns-2 : tie.Need-returns-2
 unfolding mergeCall
-returns-2 c = rw (← (c .before .before .before .before .before .barred .ensures), eq-eqb _ _ (c .before .before .before .before .if1 .left)) (c .before .before .merge .ensures)
+returns-2 c = rw (← (c .before .before .before .before .before .setting-number .ensures), eq-eqb _ _ (c .before .before .before .before .if1 .left)) (c .before .before .merge .ensures)
 
 pub merge-or-not-spec : {M : Type 1} → statement M
 merge-or-not-spec =

@@ -10,13 +10,13 @@ use mir.Syntax.{w32, w64}
 use Rattle.laws.proofs.Integers.{back}
 use Rattle.laws.proofs.Fill.{front, front-start, front-length, front-turn, front-end}
 use Rattle.transform.specs.Zigzag.{zigzagAt}
-use Rattle.transform.specs.Picture.{scaled, dequantised}
+use Rattle.transform.specs.Picture.{timesQuantiser, dequantised}
 use Rattle.transform.proofs.Tables.{order-long, order-at, zigzag-small}
 use Rattle.transform.proofs.dequantise.Statement.{statement}
 use Rattle.transform.proofs.dequantise.Tie as tie
 
 abbrev product-of : List ℤ → List ℕ → ℕ → ℕ → ℤ
-product-of values quantisers block p = scaled (getD values (block * 64 + zigzagAt p) (pos 0)) (getD quantisers (zigzagAt p) 0)
+product-of values quantisers block p = timesQuantiser (getD values (block * 64 + zigzagAt p) (pos 0)) (getD quantisers (zigzagAt p) 0)
 
 abbrev Inv-loop : tie.InvT-loop
 Inv-loop order values quantisers block s₀ p₀ s p = (p ≤ 64) × (s ≡ front s₀ (product-of values quantisers block) p)
@@ -49,30 +49,30 @@ shared-slice-read-z c = omega (arith, ap length (c .before .before .before .befo
 add-i : tie.Need-add-i Inv-loop μ-loop
 add-i c = omega (arith, small (c .before))
 
-mul-scaled : tie.Need-mul-scaled Inv-loop μ-loop
-mul-scaled c = omega (arith, small (c .before))
+mul-times-quantiser : tie.Need-mul-times-quantiser Inv-loop μ-loop
+mul-times-quantiser c = omega (arith, small (c .before))
 
-shared-slice-copy-out-scaled : tie.Need-shared-slice-copy-out-scaled Inv-loop μ-loop
-shared-slice-copy-out-scaled c = omega (arith, small (c .before))
+shared-slice-copy-out-times-quantiser : tie.Need-shared-slice-copy-out-times-quantiser Inv-loop μ-loop
+shared-slice-copy-out-times-quantiser c = omega (arith, small (c .before))
 
-mul-scaled-2 : tie.Need-mul-scaled-2 Inv-loop μ-loop
-mul-scaled-2 c = omega (arith, small (c .before .before))
+mul-times-quantiser-2 : tie.Need-mul-times-quantiser-2 Inv-loop μ-loop
+mul-times-quantiser-2 c = omega (arith, small (c .before .before))
 
-shared-slice-read-scaled : tie.Need-shared-slice-read-scaled Inv-loop μ-loop
-shared-slice-read-scaled c = omega (arith, small (c .before .before .before))
+shared-slice-read-times-quantiser : tie.Need-shared-slice-read-times-quantiser Inv-loop μ-loop
+shared-slice-read-times-quantiser c = omega (arith, small (c .before .before .before))
 
 slice-set-from-w : tie.Need-slice-set-from-w Inv-loop μ-loop
 slice-set-from-w c = omega (arith, long (c .before .before .before .before .before))
 
 loop-again : tie.Need-loop-again Inv-loop μ-loop
 loop-again c =
-    let at-scaled-arg = c .before .before in
-    let at-loop = at-scaled-arg .before .before .before in
+    let at-times-quantiser-arg = c .before .before in
+    let at-loop = at-times-quantiser-arg .before .before .before in
     let at-entry = at-loop .before .before .before in
     let a = at-entry .args in
     let p = at-loop .loop .p in
     let room : p < length (a .s .now) = omega arith in
-    (search needs, rw (back w64 (c .scaled .result) (c .scaled .ok), c .scaled .ensures, back w32 _ (at-scaled-arg .scaled-arg .given), is-zigzag (c .before .before .before .before), at-loop .loop .inv .1) (front-turn (a .s .now) (product-of (a .values .now) (a .quantisers .now) (a .block)) p room))
+    (search needs, rw (back w64 (c .times-quantiser .result) (c .times-quantiser .ok), c .times-quantiser .ensures, back w32 _ (at-times-quantiser-arg .times-quantiser-arg .given), is-zigzag (c .before .before .before .before), at-loop .loop .inv .1) (front-turn (a .s .now) (product-of (a .values .now) (a .quantisers .now) (a .block)) p room))
 
 same-length : tie.Need-same-length Inv-loop μ-loop
 same-length c = long (c .before) ∙ sym (c .before .before .before .before .pre .0 .1)
@@ -95,10 +95,10 @@ dequantise-spec =
     shared-slice-read-z
     (λ c. omega arith)
     add-i
-    mul-scaled
-    shared-slice-copy-out-scaled
-    mul-scaled-2
-    shared-slice-read-scaled
+    mul-times-quantiser
+    shared-slice-copy-out-times-quantiser
+    mul-times-quantiser-2
+    shared-slice-read-times-quantiser
     (λ c κs. search needs)
     (λ c. search needs)
     slice-set-from-w

@@ -1,4 +1,4 @@
--- `transform::scaled` meets its contract: the product of any value and any quantiser fits, by their magnitudes. Assumes nothing.
+-- `transform::times_quantiser` meets its contract: the product of any value and any quantiser fits, by their magnitudes. Assumes nothing.
 use borrow.Author.Needs.{needs}
 use mathlib.Core.Path.{_≡_, sym, ap, subst, _∙_}
 use native.Mathlib.Omega.{arith}
@@ -7,9 +7,9 @@ use mir.Syntax.{w32, w64}
 use mir.Val.{SFits, toZ, ofZ}
 use mir.Facts.{toZ-ofZ, toZ-pos}
 use Rattle.laws.proofs.Integers.{abs-prod-le, fit-in, fits-abs, to64, widened}
-use Rattle.transform.specs.Picture.{scaled}
-use Rattle.transform.proofs.scaled.Statement.{statement}
-use Rattle.transform.proofs.scaled.Tie as tie
+use Rattle.transform.specs.Picture.{timesQuantiser}
+use Rattle.transform.proofs.times_quantiser.Statement.{statement}
+use Rattle.transform.proofs.times_quantiser.Tie as tie
 
 module _ (c : tie.Start) where
   whole-fits : SFits w64 (c .args .value *ℤ pos (c .args .quantiser))
@@ -25,8 +25,8 @@ mul-result : tie.Need-mul-result
 mul-result c = subst (SFits w64) (sym (is c)) (whole-fits c)
 
 returns : tie.Need-returns
-unfolding scaled
+unfolding timesQuantiser
 returns c = ap (λ (z : ℤ). toZ w64 (ofZ w64 z)) (is c) ∙ toZ-ofZ (whole-fits c)
 
-pub scaled-spec : {M : Type 1} → statement M
-scaled-spec = tie.close (tie.spec cast-result (λ c. search needs) mul-result returns)
+pub times-quantiser-spec : {M : Type 1} → statement M
+times-quantiser-spec = tie.close (tie.spec cast-result (λ c. search needs) mul-result returns)

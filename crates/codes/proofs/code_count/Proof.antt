@@ -1,11 +1,11 @@
--- `codes::total_of` meets its contract. Assumes nothing.
+-- `codes::code_count` meets its contract. Assumes nothing.
 use Prim.Native.Nat.{_-_}
 use lib.ListN.{length}
 use Rattle.codes.proofs.Laws.{Summed, sum-turn, sum-end}
 use borrow.Author.Needs.{needs}
 use native.Mathlib.Omega.{arith}
-use Rattle.codes.proofs.total_of.Statement.{statement}
-use Rattle.codes.proofs.total_of.Tie as tie
+use Rattle.codes.proofs.code_count.Statement.{statement}
+use Rattle.codes.proofs.code_count.Tie as tie
 
 abbrev Inv-loop : tie.InvT-loop
 Inv-loop counts sum₀ l₀ sum l = Summed counts sum l
@@ -22,8 +22,8 @@ loop-again c = sum-turn (c .before .before .before .loop .inv) (c .before .befor
 returns : tie.Need-returns Inv-loop μ-loop
 returns c = sum-end (c .before .loop .inv) (c .loop-test .left)
 
-pub total-of-spec : {M : Type 1} → statement M
-total-of-spec =
+pub code-count-spec : {M : Type 1} → statement M
+code-count-spec =
     tie.close
     (tie.spec
     Inv-loop
