@@ -1,5 +1,5 @@
 // Runs the vectors that tools/vectors/boxes.py made through `boxes::box_bytes`: a line for each group.
-use tallies::Ran;
+use tallies::Finding;
 
 // A record: group, type, instance, room, the file, and the number, place and bytes expected.
 fn boxed(bytes: &[u8], at: usize, told: usize, output: &mut [u8]) -> bool {
@@ -15,7 +15,7 @@ fn boxed(bytes: &[u8], at: usize, told: usize, output: &mut [u8]) -> bool {
     tallies::right(a, number, place, wrong)
 }
 
-fn run_record(bytes: &[u8], at: usize) -> Ran {
+fn run_record(bytes: &[u8], at: usize) -> Finding {
     let end = bytes.len();
     let room = records::number_at(bytes, records::past(end, at, 10));
     let size = records::number_at(bytes, records::past(end, at, 14));
@@ -24,10 +24,10 @@ fn run_record(bytes: &[u8], at: usize) -> Ran {
     let next = records::past(end, records::past(end, told, 12), expected);
     let mut output = [7u8; 10000];
     if 10000 < room {
-        return Ran { good: false, next };
+        return Finding { good: false, next };
     }
     let good = boxed(bytes, at, told, &mut output[0..room]);
-    Ran { good, next }
+    Finding { good, next }
 }
 
 fn run_all(bytes: &[u8]) {

@@ -1,6 +1,6 @@
 // Runs the vectors that tools/vectors/planes.py made through the calls on planes: a line for each group.
 use answers::Answer;
-use tallies::Ran;
+use tallies::Finding;
 
 // A number that stands `above` too high.
 fn lowered(x: usize, above: usize) -> i32 {
@@ -185,8 +185,8 @@ fn halve(ac: bool, values: &[i32], halves: &mut [i32]) {
     }
 }
 
-fn failed(next: usize) -> Ran {
-    Ran { good: false, next }
+fn failed(next: usize) -> Finding {
+    Finding { good: false, next }
 }
 
 // A record that reads: behind number and place stand the values expected.
@@ -197,7 +197,7 @@ fn run_read(
     values: &[i32],
     other: &mut [i32],
     output: &mut [i32],
-) -> Ran {
+) -> Finding {
     let end = bytes.len();
     let number = records::number_at(bytes, at);
     let place = records::number_at(bytes, records::past(end, at, 4));
@@ -221,11 +221,11 @@ fn run_read(
         place,
         &mut output[0..room],
     );
-    Ran { good, next }
+    Finding { good, next }
 }
 
 // A record that writes: behind number and place stand the bytes expected.
-fn run_write(bytes: &[u8], c: Case, at: usize, values: &[i32], coded: &mut [u8]) -> Ran {
+fn run_write(bytes: &[u8], c: Case, at: usize, values: &[i32], coded: &mut [u8]) -> Finding {
     let end = bytes.len();
     let number = records::number_at(bytes, at);
     let place = records::number_at(bytes, records::past(end, at, 4));
@@ -245,7 +245,7 @@ fn run_write(bytes: &[u8], c: Case, at: usize, values: &[i32], coded: &mut [u8])
         place,
         &mut coded[0..room],
     );
-    Ran { good, next }
+    Finding { good, next }
 }
 
 // A record that does both: the values are written as its data, and the data over the halves are read as the values.
@@ -257,7 +257,7 @@ fn run_trip(
     other: &mut [i32],
     output: &mut [i32],
     coded: &mut [u8],
-) -> Ran {
+) -> Finding {
     let next = records::past(bytes.len(), at, 8);
     let n = values.len();
     let room = c.room;
@@ -276,7 +276,7 @@ fn run_trip(
         return failed(next);
     }
     let good = writes(bytes, c, values, data, 0, data.len(), &mut coded[0..room]);
-    Ran { good, next }
+    Finding { good, next }
 }
 
 // The record at a position, over lent arrays: zeros for its values and for others, sevens for what is handed out.
@@ -287,7 +287,7 @@ fn run_lent(
     other: &mut [i32],
     output: &mut [i32],
     coded: &mut [u8],
-) -> Ran {
+) -> Finding {
     let c = case_at(bytes, at);
     let end = bytes.len();
     let n = records::number_at(bytes, c.values);
@@ -305,7 +305,7 @@ fn run_lent(
     run_write(bytes, c, next, &values[0..n], coded)
 }
 
-fn run_record(bytes: &[u8], at: usize) -> Ran {
+fn run_record(bytes: &[u8], at: usize) -> Finding {
     let mut values = [0i32; 65536];
     let mut other = [0i32; 65536];
     let mut output = [7i32; 65536];

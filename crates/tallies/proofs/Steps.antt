@@ -5,13 +5,13 @@ use mathlib.Core.List.{List}
 use Prim.Native.Nat.{ℕ, _-_, _<_}
 use native.Mathlib.Omega.{arith}
 use Rattle.records.specs.Fields.{numberAt}
-use Rattle.tallies.specs.declared.Ran.{Ran}
+use Rattle.tallies.specs.declared.Finding.{Finding}
 use Rattle.tallies.specs.declared.Run.{Run}
 use Rattle.tallies.specs.Runs.{counted, goesOn, moved, nextRun}
 
-pub after-is : (bytes : List ℕ) (r : Run) (ran : Ran) {k : Run} {group : ℕ} {same : Bool} → k ≡ counted r (ran .good) → group ≡ numberAt bytes (ran .next) → same ≡ goesOn (k .left) (k .group) group → moved same k (ran .next) group ≡ nextRun bytes r ran
+pub next-run-is : (bytes : List ℕ) (r : Run) (ran : Finding) {k : Run} {group : ℕ} {same : Bool} → k ≡ counted r (ran .good) → group ≡ numberAt bytes (ran .next) → same ≡ goesOn (k .left) (k .group) group → moved same k (ran .next) group ≡ nextRun bytes r ran
 unfolding nextRun
-after-is bytes r ran e f g = rw (g, e, f)
+next-run-is bytes r ran e f g = rw (g, e, f)
 
 -- so a loop over records ends
 counted-left : (r : Run) (good : Bool) → counted r good .left ≡ r .left - 1
@@ -19,9 +19,9 @@ unfolding counted
 counted-left r true = refl
 counted-left r false = refl
 
-after-left : (bytes : List ℕ) (r : Run) (ran : Ran) → nextRun bytes r ran .left ≡ r .left - 1
+next-run-left : (bytes : List ℕ) (r : Run) (ran : Finding) → nextRun bytes r ran .left ≡ r .left - 1
 unfolding nextRun moved
-after-left bytes r ran = counted-left r (ran .good)
+next-run-left bytes r ran = counted-left r (ran .good)
 
-pub after-less : (bytes : List ℕ) (r : Run) (ran : Ran) {s : Run} → s ≡ nextRun bytes r ran → 0 < r .left → s .left < r .left
-after-less bytes r ran e h = omega (arith, ap (λ t. t .left) e, after-left bytes r ran)
+pub next-run-less : (bytes : List ℕ) (r : Run) (ran : Finding) {s : Run} → s ≡ nextRun bytes r ran → 0 < r .left → s .left < r .left
+next-run-less bytes r ran e h = omega (arith, ap (λ t. t .left) e, next-run-left bytes r ran)

@@ -4,7 +4,7 @@ use mathlib.Core.List.{List}
 use Prim.Native.Nat.{ℕ, _+_, _-_, _%_}
 use lib.Dec.{eqb}
 use Rattle.records.specs.Fields.{numberAt}
-use Rattle.tallies.specs.declared.Ran.{Ran}
+use Rattle.tallies.specs.declared.Finding.{Finding}
 use Rattle.tallies.specs.declared.Run.{Run}
 
 unfoldable pub begun : List ℕ → Run
@@ -23,5 +23,5 @@ goesOn left group next = cond (eqb left 0) false (eqb group next)
 unfoldable pub moved : Bool → Run → ℕ → ℕ → Run
 moved same r at group = record { at = at; left = r .left; group = group; right = cond same (r .right) 0; all = cond same (r .all) 0 }
 
-unfoldable pub nextRun : List ℕ → Run → Ran → Run
+unfoldable pub nextRun : List ℕ → Run → Finding → Run
 nextRun bytes r ran = moved (goesOn (counted r (ran .good) .left) (counted r (ran .good) .group) (numberAt bytes (ran .next))) (counted r (ran .good)) (ran .next) (numberAt bytes (ran .next))

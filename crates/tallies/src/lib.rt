@@ -11,7 +11,7 @@ ghost use Rattle.tallies.specs.Wanted.{wanted, isWanted, sameValue, righ
 ghost use Rattle.tallies.specs.Runs.{goesOn, counted as Runs·counted, begun as Runs·begun, nextRun};
 
 // A record was run: whether it was right, and where the next one stands.
-pub struct Ran {
+pub struct Finding {
     pub good: bool,
     pub next: usize,
 }
@@ -176,7 +176,7 @@ fn goes_on(left: usize, group: usize, next: usize) -> bool
 }
 
 // Behind a record that was run. The line of its group is written if it was the last one.
-pub fn next_run(bytes: &[u8], r: Run, ran: Ran) -> Run
+pub fn next_run(bytes: &[u8], r: Run, ran: Finding) -> Run
     ensures { λ s. ⌜ s ≡ nextRun (now (bytes .entry)) r ran ⌝ }
 {
     let c = counted(r, ran.good);

@@ -1,5 +1,5 @@
 // Runs the transform on the records that tools/vectors/transform.py computed by itself: a line for each group.
-use tallies::Ran;
+use tallies::Finding;
 
 // A record of the file: the numbers before its lists, how long these are, and where they stand.
 struct Case {
@@ -53,7 +53,7 @@ fn transforms(
     tallies::right(a, c.number, c.place, wrong)
 }
 
-fn run_record(bytes: &[u8], at: usize) -> Ran {
+fn run_record(bytes: &[u8], at: usize) -> Finding {
     let c = case_at(bytes, at);
     let next = c.next;
     let v = records::number_at(bytes, c.values);
@@ -65,16 +65,16 @@ fn run_record(bytes: &[u8], at: usize) -> Ran {
     let mut expected = [0i32; 8192];
     let mut destination = [7i32; 8192];
     if 8192 < v {
-        return Ran { good: false, next };
+        return Finding { good: false, next };
     }
     if 128 < q {
-        return Ran { good: false, next };
+        return Finding { good: false, next };
     }
     if 8192 < e {
-        return Ran { good: false, next };
+        return Finding { good: false, next };
     }
     if 8192 < d {
-        return Ran { good: false, next };
+        return Finding { good: false, next };
     }
     let good = transforms(
         bytes,
@@ -84,7 +84,7 @@ fn run_record(bytes: &[u8], at: usize) -> Ran {
         &mut expected[0..e],
         &mut destination[0..d],
     );
-    Ran { good, next }
+    Finding { good, next }
 }
 
 fn run_all(bytes: &[u8]) {
