@@ -1,6 +1,6 @@
 #!/usr/bin/env python3
 """read.py PICTURE [OUT.pgm]: one grey JPEG XT picture read through: boxes, refinement planes, transform, merge with its TONE table; compared with
-the reference decoder (`jpeg` of Debian's libjpeg-tools) where that is there, and with what that decoder's own arithmetic makes of the same values. The base coefficients are lent numbers to the reader: they stand in
+the reference decoder (`jpeg` of Debian's libjpeg-tools) where that is there, and with that decoder's arithmetic, rebuilt here by trial, on the same values. The base coefficients are lent numbers to the reader: they stand in
 PICTURE.base, or come from libjpeg (tools/vectors/coefficients.c: gcc and libjpeg62-turbo-dev). Needs `rt staticlib reader_c` first."""
 import os, shutil, subprocess, sys, tempfile
 sys.path.insert(0, os.path.dirname(os.path.abspath(__file__)))
@@ -75,7 +75,7 @@ def output_bits(file):
 
 
 def decoder_samples(blocks, quantisers, planes):
-    """The reference decoder's own transform: cosines in 512ths, rounded behind the rows and again behind the columns, to samples in sixteenths."""
+    """The reference decoder's transform, rebuilt by trial: cosines in 512ths, rounded behind the rows and again behind the columns, to samples in sixteenths."""
     def line(s, x):
         total = 512 * s[0]
         for u in range(1, 8):
@@ -94,7 +94,7 @@ def decoder_samples(blocks, quantisers, planes):
 
 
 def decoder_merge(rb, rh, rr, base, table, residual):
-    """The reference decoder's own merge of samples in sixteenths: the base is rounded before its curve, the residual is clipped to its range and keeps its sixteenths."""
+    """The reference decoder's merge, rebuilt by trial, of samples in sixteenths: the base is rounded before its curve, the residual is clipped to its range and keeps its sixteenths."""
     clip = lambda v, bits: max(0, min(v, (1 << bits) - 1))
     out = []
     for i, b in enumerate(base):
@@ -133,7 +133,7 @@ def samples_of(name, path, codestream, fines, say):
 
 
 def read(path, say=print):
-    """Width, height, Rb, the samples, and what the decoder's own arithmetic makes of the same values."""
+    """Width, height, Rb, the samples, and what the decoder's arithmetic, as rebuilt here, makes of the same values."""
     file = open(path, 'rb').read()
     say(listing(file).rstrip())
     width, height, planes, base, base16 = samples_of('base', path, file, all_boxes(file, b'FINE'), say)
@@ -181,7 +181,7 @@ def main():
     far = [abs(a - b) for a, b in zip(samples, theirs)]
     classes = (('the same', 0, 0), ('1 away', 1, 1), ('2 to 8 away', 2, 8), ('more', 9, 1 << 16))
     print('beside the reference decoder: ' + ', '.join(f'{sum(low <= d <= high for d in far)} {name}' for name, low, high in classes) + f'; at most {max(far)}')
-    print(f"the decoder's own arithmetic on the same values gives {sum(a == b for a, b in zip(as_decoder, theirs))} of its {len(theirs)} samples")
+    print(f"the decoder's arithmetic, rebuilt here, on the same values gives {sum(a == b for a, b in zip(as_decoder, theirs))} of its {len(theirs)} samples")
 
 
 if __name__ == '__main__':
