@@ -5,10 +5,7 @@ use Prim.Native.Nat.{ℕ, _+_, _*_, _≤_, _<_}
 use native.Mathlib.Omega.{arith}
 use borrow.Author.Tests.{leb-true, leb-false, le-leb, lt-leb}
 use lib.ListN.{length, getD, take, drop, List·getD-eq-default}
-use lib.IntN.{ℤ, pos, negsuc, negℤ, _-ℤ_}
-use lib.Signed.{mag}
 use lib.Dec.{leb}
-use Rattle.laws.proofs.Integers.{up, dn, sum, one, pos-up, pos-dn, negsuc-dn, neg-up, neg-dn}
 use Rattle.laws.proofs.Choices.{by-test}
 use Rattle.records.specs.Fields.{past, pairAt, numberAt, part, lent}
 
@@ -20,7 +17,7 @@ pub on-end : (end at n : ℕ) → end < at + n → past end at n ≡ end
 unfolding past
 on-end end at n h = rw (lt-leb (at + n) end h)
 
--- what is so inside, and so of the end and of all behind it, is so
+-- a position that is cut at the end reads the same, where all behind the end reads alike
 on-alike : {A : Type 0} (f : ℕ → A) (z : A) (end at n : ℕ) → ((p : ℕ) → end ≤ p → f p ≡ z) → f (past end at n) ≡ f (at + n)
 unfolding past
 on-alike f z end at n behind =
@@ -80,16 +77,3 @@ number-is bytes at e f g = rw (f, g, e, on-pair bytes at 2)
 pub lent-is : (bytes : List ℕ) (at : ℕ) {n p : ℕ} {l : List ℕ} → n ≡ numberAt bytes at → p ≡ past (length bytes) at 4 → l ≡ part bytes p n → l ≡ lent bytes at
 unfolding lent
 lent-is bytes at e f g = rw (g, f, e, on-part bytes at 4)
-
--- a number below 2h, less h, has the magnitude of a signed number
-mag-below : (h : ℕ) (z : ℤ) → up z < h → dn z ≤ h → mag z < h
-mag-below h (pos n) a b = omega (arith, pos-up n)
-mag-below h (negsuc n) a b = omega (arith, negsuc-dn n)
-
-pub less-half : (h n : ℕ) → 0 < h → n < h + h → mag (pos n -ℤ pos h) < h
-less-half h n some l =
-    let z = pos n -ℤ pos h in
-    let e = sum (pos n) (negℤ (pos h)) in
-    mag-below h z
-    (omega (arith, one z, pos-up n, pos-dn n, neg-up (pos h), neg-dn (pos h), pos-up h, pos-dn h))
-    (omega (arith, one z, pos-up n, pos-dn n, neg-up (pos h), neg-dn (pos h), pos-up h, pos-dn h))

@@ -4,8 +4,8 @@ use native.Mathlib.Omega.{arith}
 use lib.IntN.{pos, _-ℤ_}
 use mir.Syntax.{w16, w32}
 use mir.Val.{SFits}
+use Rattle.laws.proofs.Integers.{less-half}
 use mir.Facts.{toZ-ofZ, toZ-pos, sfits-widen}
-use Rattle.records.proofs.Fields.{less-half}
 use Rattle.merge_vectors.proofs.weight.Statement.{statement}
 use Rattle.merge_vectors.proofs.weight.Tie as tie
 

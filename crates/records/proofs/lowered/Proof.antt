@@ -4,8 +4,7 @@ use lib.IntN.{pos, _-ℤ_}
 use mir.Syntax.{w32, w64}
 use mir.Val.{SFits}
 use mir.Facts.{toZ-ofZ, toZ-pos}
-use Rattle.laws.proofs.Integers.{to64}
-use Rattle.records.proofs.Fields.{less-half}
+use Rattle.laws.proofs.Integers.{to64, less-half}
 use borrow.Author.Needs.{needs}
 use Rattle.records.proofs.lowered.Statement.{statement}
 use Rattle.records.proofs.lowered.Tie as tie
