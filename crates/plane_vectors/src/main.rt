@@ -3,7 +3,7 @@ use answers::Answer;
 use tallies::Finding;
 
 // A number that stands `above` too high.
-fn lowered(x: usize, above: usize) -> i32 {
+fn brought_down(x: usize, above: usize) -> i32 {
     if x < 2097152 {
         if above < 2097152 {
             return (x as i32) - (above as i32);
@@ -27,20 +27,20 @@ fn entry_at(bytes: &[u8], at: usize) -> Entry {
         let far = records::past(bytes.len(), at, 3);
         return Entry {
             gap,
-            value: lowered(records::number_at(bytes, far), 1048576),
+            value: brought_down(records::number_at(bytes, far), 1048576),
             size: 7,
         };
     }
     if small < 32768 {
         return Entry {
             gap,
-            value: lowered(small, 0),
+            value: brought_down(small, 0),
             size: 3,
         };
     }
     Entry {
         gap,
-        value: lowered(small, 65536),
+        value: brought_down(small, 65536),
         size: 3,
     }
 }

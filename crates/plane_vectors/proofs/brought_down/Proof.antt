@@ -1,4 +1,4 @@
--- `plane_vectors::lowered` is safe. Assumes nothing.
+-- `plane_vectors::brought_down` is safe. Assumes nothing.
 use mathlib.Core.Path.{_≡_}
 use lib.IntN.{pos, negℤ}
 use mir.Syntax.{w32}
@@ -7,8 +7,8 @@ use mir.Facts.{toZ-pos}
 use Rattle.laws.proofs.Integers.{fit, abs-sum, abs-neg}
 use native.Mathlib.Omega.{arith}
 use borrow.Author.Needs.{needs}
-use Rattle.plane_vectors.proofs.lowered.Statement.{statement}
-use Rattle.plane_vectors.proofs.lowered.Tie as tie
+use Rattle.plane_vectors.proofs.brought_down.Statement.{statement}
+use Rattle.plane_vectors.proofs.brought_down.Tie as tie
 
 sub-result : tie.Need-sub-result
 sub-result c =
@@ -17,6 +17,6 @@ sub-result c =
     let y : toZ w32 (a .above) ≡ pos (a .above) = toZ-pos w32 (omega arith) in
     rw (x, y) (fit w32 (omega (arith, abs-sum (pos (a .x)) (negℤ (pos (a .above))), abs-neg (pos (a .above)))))
 
-pub lowered-spec : {M : Type 1} → statement M
-lowered-spec =
+pub brought-down-spec : {M : Type 1} → statement M
+brought-down-spec =
     tie.close (tie.spec (λ c. search needs) (λ c. search needs) sub-result (λ c. search needs) (λ c. search needs) (λ c. search needs))
