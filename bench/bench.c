@@ -1,15 +1,21 @@
-/* bench: each call of libreader_c.a beside the plain C version of the same rules, on the same input in the same run.
- * A line for each: units a second of both, the ratio of their times, and the ratio of our times at twice the size (2 is linear). */
+/* bench: each call of libreader_c beside the plain C version of the same rules, built by gcc and by clang, on the same input in the same run.
+ * A line for each: units a second, our time over that of each compiler's plain C, and the ratio of our times at twice the size (2 is linear). */
 #include <stdio.h>
 #include <stdlib.h>
 #include <string.h>
 #include <time.h>
 #include "auhowipi.h"
+#define PLAIN(name) gcc_##name
 #include "plain.h"
+#ifdef BY_CLANG
+#undef PLAIN
+#define PLAIN(name) clang_##name
+#include "plain.h"
+#endif
 
 static uint32_t seed = 18477;
 static uint32_t rnd(uint32_t n) { seed = seed * 1664525u + 1013904223u; return (uint32_t)((uint64_t)seed * n >> 32); }
-static double now(void) { struct timespec t; clock_gettime(CLOCK_MONOTONIC, &t); return (double)t.tv_sec + (double)t.tv_nsec * 1e-9; }
+static double now(void) { struct timespec t; clock_gettime(CLOCK_PROCESS_CPUTIME_ID, &t); return (double)t.tv_sec + (double)t.tv_nsec * 1e-9; }
 
 enum { BLOCKS = 1024, PIXELS = 65536, FILES = 4 << 20 };
 static uint8_t data[1 << 20], other[1 << 20], file[FILES], counts[16], codes[32];
@@ -22,49 +28,91 @@ static int bad;
 
 typedef uint32_t (*run)(size_t size, uint64_t *place);
 
-/* the best of several times, each of enough calls to last */
+/* a call's time: as many calls as last */
 static double seconds(run f, size_t size, uint64_t *place)
 {
-    double best = 1e9;
-    for (int t = 0; t < 5; t++) {
-        int calls = 0;
-        double begin = now(), spent;
-        do {
-            f(size, place);
-            calls++;
-            spent = now() - begin;
-        } while (spent < 0.05);
-        if (spent / calls < best) best = spent / calls;
-    }
-    return best;
+    int calls = 0;
+    double begin = now(), spent;
+    do {
+        f(size, place);
+        calls++;
+        spent = now() - begin;
+    } while (spent < 0.02);
+    return spent / calls;
 }
 
-static void compare(const char *name, const char *unit, size_t units, size_t size, run ours, run plain, const void *a, const void *b, size_t bytes)
+/* ours, and plain C by each compiler */
+enum { OURS, GCC, CLANG, HALF, TIMES };
+
+/* the best of several times each, taken in turn: what slows the machine for a while slows all */
+static void times(double best[TIMES], run by[TIMES], size_t size)
 {
-    uint32_t n1 = ours(size, &place1), n2 = plain(size, &place2);
+    for (int k = 0; k < TIMES; k++) best[k] = 1e9;
+    for (int t = 0; t < 9; t++)
+        for (int k = 0; k < TIMES; k++) {
+            if (!by[k]) continue;
+            double spent = seconds(by[k], k == HALF ? size / 2 : size, &place1);
+            if (spent < best[k]) best[k] = spent;
+        }
+}
+
+#ifdef BY_CLANG
+#define BOTH(f) gcc_##f, clang_##f
+#else
+#define BOTH(f) gcc_##f, 0
+#endif
+
+static void compare(const char *name, const char *unit, size_t units, size_t size, run ours, run gcc, run clang, const void *a, const void *b, size_t bytes)
+{
+    double t[TIMES];
+    run by[TIMES] = {ours, gcc, clang, ours};
+    uint32_t n1 = ours(size, &place1), n2 = gcc(size, &place2);
     int same = n1 == n2 && place1 == place2 && memcmp(a, b, bytes) == 0;
+    if (clang) {
+        memset((void *)b, 0x5A, bytes);
+        n2 = clang(size, &place2);
+        same &= n1 == n2 && place1 == place2 && memcmp(a, b, bytes) == 0;
+    }
     bad += !same;
-    double t1 = seconds(ours, size, &place1), t2 = seconds(plain, size, &place2), half = seconds(ours, size / 2, &place1);
-    printf("| %s | %.3g | %.3g | %s | %.2f | %.2f | %s |\n", name, units / t1, units / t2, unit, t1 / t2, t1 / half, same ? "yes" : "NO");
+    times(t, by, size);
+    printf("| %s | %.3g | %s | %.2f | ", name, (double)units / t[OURS], unit, t[OURS] / t[GCC]);
+    if (clang) printf("%.2f", t[OURS] / t[CLANG]);
+    printf(" | %.2f | %s |\n", t[OURS] / t[HALF], same ? "yes" : "NO");
+    fflush(stdout);
 }
 
 static uint32_t w_dc(size_t n, uint64_t *p) { return xt_write_dc_plane(4, n, full, n, data, sizeof data, p); }
-static uint32_t w_dc2(size_t n, uint64_t *p) { return plain_write_dc(4, n, full, n, other, sizeof other, p); }
 static uint32_t r_dc(size_t n, uint64_t *p) { return xt_read_dc_plane(4, n, data, (n + 7) / 8, old, n, out1, n, p); }
-static uint32_t r_dc2(size_t n, uint64_t *p) { return plain_read_dc(4, n, data, (n + 7) / 8, old, n, out2, n, p); }
 static uint32_t w_ac(size_t n, uint64_t *p) { return xt_write_ac_plane(4, n, counts, 16, codes, 32, full, 63 * n, data, sizeof data, p); }
-static uint32_t w_ac2(size_t n, uint64_t *p) { return plain_write_ac(4, n, counts, 16, codes, 32, full, 63 * n, other, sizeof other, p); }
 static size_t length_for(size_t n) { static size_t whole, half; if (!whole) { uint64_t p; w_ac(BLOCKS, &p); whole = p; w_ac(BLOCKS / 2, &p); half = p; w_ac(BLOCKS, &p); } return n == BLOCKS ? whole : half; }
 static uint8_t halfway[1 << 20];
 static const uint8_t *coded_for(size_t n) { return n == BLOCKS ? data : halfway; }
 static uint32_t r_ac(size_t n, uint64_t *p) { return xt_read_ac_plane(4, n, counts, 16, codes, 32, coded_for(n), length_for(n), old, 63 * n, out1, 63 * n, p); }
-static uint32_t r_ac2(size_t n, uint64_t *p) { return plain_read_ac(4, n, counts, 16, codes, 32, coded_for(n), length_for(n), old, 63 * n, out2, 63 * n, p); }
 static uint32_t it(size_t n, uint64_t *p) { return xt_inverse_transform(4, n, full, 64 * n, quantisers, 64, out1, 64 * n, p); }
-static uint32_t it2(size_t n, uint64_t *p) { return plain_inverse_transform(4, n, full, 64 * n, quantisers, 64, out2, 64 * n, p); }
 static uint32_t mg(size_t n, uint64_t *p) { return xt_merge(8, 4, 4, 3, n, 1, 0, 0, 1, 1, base, 3 * n, residual, 3 * n, quantisers, 0, (const int16_t *)quantisers, 0, merged1, 3 * n, p); }
-static uint32_t mg2(size_t n, uint64_t *p) { return plain_merge(8, 4, 4, 3, n, 1, 1, base, 3 * n, residual, 3 * n, merged2, 3 * n, p); }
 static uint32_t mg1(size_t n, uint64_t *p) { return xt_merge(8, 0, 0, 1, n, 0, 0, 0, 0, 0, base, n, residual, 0, quantisers, 0, (const int16_t *)quantisers, 0, merged1, n, p); }
-static uint32_t mg12(size_t n, uint64_t *p) { return plain_merge(8, 0, 0, 1, n, 0, 0, base, n, residual, 0, merged2, n, p); }
+
+/* `size` bytes of box in packets of `each`, in file order or backward */
+static size_t each, backward;
+static size_t made;
+static void made_for(size_t size);
+static uint32_t bx(size_t n, uint64_t *p) { made_for(n); return xt_box_bytes(file, file_len, 0x46494E45, 1, box1, sizeof box1, p); }
+static uint32_t ls(size_t n, uint64_t *p) { made_for(n); return xt_list_packets(file, file_len, box1, sizeof box1, p); }
+
+#define RUNS(by) \
+    static uint32_t by##_w_dc(size_t n, uint64_t *p) { return by##_write_dc(4, n, full, n, other, sizeof other, p); } \
+    static uint32_t by##_r_dc(size_t n, uint64_t *p) { return by##_read_dc(4, n, data, (n + 7) / 8, old, n, out2, n, p); } \
+    static uint32_t by##_w_ac(size_t n, uint64_t *p) { return by##_write_ac(4, n, counts, 16, codes, 32, full, 63 * n, other, sizeof other, p); } \
+    static uint32_t by##_r_ac(size_t n, uint64_t *p) { return by##_read_ac(4, n, counts, 16, codes, 32, coded_for(n), length_for(n), old, 63 * n, out2, 63 * n, p); } \
+    static uint32_t by##_it(size_t n, uint64_t *p) { return by##_inverse_transform(4, n, full, 64 * n, quantisers, 64, out2, 64 * n, p); } \
+    static uint32_t by##_mg(size_t n, uint64_t *p) { return by##_merge(8, 4, 4, 3, n, 1, 1, base, 3 * n, residual, 3 * n, merged2, 3 * n, p); } \
+    static uint32_t by##_mg1(size_t n, uint64_t *p) { return by##_merge(8, 0, 0, 1, n, 0, 0, base, n, residual, 0, merged2, n, p); } \
+    static uint32_t by##_bx(size_t n, uint64_t *p) { made_for(n); return by##_box_bytes(file, file_len, 0x46494E45, 1, box2, sizeof box2, p); } \
+    static uint32_t by##_ls(size_t n, uint64_t *p) { made_for(n); return by##_list_packets(file, file_len, box2, sizeof box2, p); }
+RUNS(gcc)
+#ifdef BY_CLANG
+RUNS(clang)
+#endif
 
 static void packet(uint32_t number, uint32_t lbox, size_t len)
 {
@@ -75,8 +123,6 @@ static void packet(uint32_t number, uint32_t lbox, size_t len)
     for (size_t i = 0; i < len; i++) file[file_len++] = (uint8_t)rnd(256);
 }
 
-/* `size` bytes of box in packets of `each`, in file order or backward */
-static size_t each, backward;
 static void picture(size_t size)
 {
     size_t n = size / each;
@@ -87,28 +133,42 @@ static void picture(size_t size)
     file[file_len++] = 0xFF;
     file[file_len++] = 0xDA;
 }
-static size_t made;
 static void made_for(size_t size) { if (made != size) { picture(size); made = size; } }
-static uint32_t bx(size_t n, uint64_t *p) { made_for(n); return xt_box_bytes(file, file_len, 0x46494E45, 1, box1, sizeof box1, p); }
-static uint32_t bx2(size_t n, uint64_t *p) { made_for(n); return plain_box_bytes(file, file_len, 0x46494E45, 1, box2, sizeof box2, p); }
-
-static uint32_t ls(size_t n, uint64_t *p) { made_for(n); return xt_list_packets(file, file_len, box1, sizeof box1, p); }
-static uint32_t ls2(size_t n, uint64_t *p) { made_for(n); return plain_list_packets(file, file_len, box2, sizeof box2, p); }
 
 /* how xt_box_bytes grows: packets of 20 bytes, in file order and backward */
 static void growth(void)
 {
-    printf("\n| bytes of box, packets of 20 | in order, ns a byte | plain C | backward, ns a byte | plain C |\n|---|---|---|---|---|\n");
+    printf("\n| bytes of box, packets of 20 | in order, ns a byte | plain C, gcc | backward, ns a byte | plain C, gcc |\n|---|---|---|---|---|\n");
     each = 20;
     for (size_t size = 50000; size <= 1600000; size *= 2) {
-        double ns[4];
+        double ns[2][TIMES];
         for (backward = 0; backward < 2; backward++) {
+            run by[TIMES] = {bx, gcc_bx, 0, 0};
             made = 0;
-            ns[2 * backward] = seconds(bx, size, &place1) / (double)size * 1e9;
-            ns[2 * backward + 1] = seconds(bx2, size, &place2) / (double)size * 1e9;
+            times(ns[backward], by, size);
         }
-        printf("| %zu | %.1f | %.1f | %.1f | %.1f |\n", size, ns[0], ns[1], ns[2], ns[3]);
+        double unit = 1e9 / (double)size;
+        printf("| %zu | %.1f | %.1f | %.1f | %.1f |\n", size, ns[0][OURS] * unit, ns[0][GCC] * unit, ns[1][OURS] * unit, ns[1][GCC] * unit);
     }
+}
+
+static void boxes_of(size_t bytes, size_t backwards, const char *name, size_t size)
+{
+    each = bytes;
+    backward = backwards;
+    made = 0;
+    compare(name, "bytes", size, size, bx, BOTH(bx), box1, box2, size);
+}
+
+/* Random samples go either way at every clip; steady ones are a slow slope, as a wall or a track is. */
+static void merges(const char *three, const char *one, int steady)
+{
+    for (size_t i = 0; i < 3 * PIXELS; i++) {
+        base[i] = steady ? (int32_t)(i % PIXELS / 512 + 60) : (int32_t)rnd(4096);
+        residual[i] = steady ? (int32_t)(2040 + i % 16) : (int32_t)rnd(4096);
+    }
+    compare(three, "pixels", PIXELS, PIXELS, mg, BOTH(mg), merged1, merged2, 6 * PIXELS);
+    compare(one, "pixels", PIXELS, PIXELS, mg1, BOTH(mg1), merged1, merged2, 2 * PIXELS);
 }
 
 int main(void)
@@ -116,35 +176,27 @@ int main(void)
     counts[5] = 32;
     for (int r = 0; r < 16; r++) { codes[2 * r] = (uint8_t)(16 * r); codes[2 * r + 1] = (uint8_t)(16 * r + 1); }
     for (int i = 0; i < 64; i++) quantisers[i] = (uint16_t)(1 + rnd(40));
-    for (size_t i = 0; i < 64 * BLOCKS; i++) {
-        full[i] = rnd(10) < 7 ? 0 : (int32_t)rnd(9) - 4;
-        old[i] = full[i] / 2;
-    }
-    for (size_t i = 0; i < 3 * PIXELS; i++) { base[i] = (int32_t)rnd(4096); residual[i] = (int32_t)rnd(4096); }
-    printf("| call | ours, units/s | plain C, units/s | unit | our time / plain C | at twice the size | same answer |\n|---|---|---|---|---|---|---|\n");
-    compare("xt_write_dc_plane, 1,024 blocks", "values", BLOCKS, BLOCKS, w_dc, w_dc2, data, other, 129);
+    for (size_t i = 0; i < 64 * BLOCKS; i++) full[i] = rnd(10) < 7 ? 0 : (int32_t)rnd(9) - 4;
+    printf("| call | ours, units/s | unit | our time / gcc -O2 | our time / clang -O3 | at twice the size | same answer |\n|---|---|---|---|---|---|---|\n");
+    compare("xt_write_dc_plane, 1,024 blocks", "values", BLOCKS, BLOCKS, w_dc, BOTH(w_dc), data, other, BLOCKS / 8);
     for (size_t i = 0; i < BLOCKS; i++) old[i] = full[i] >> 1;
     w_dc(BLOCKS, &place1);
-    compare("xt_read_dc_plane, 1,024 blocks", "values", BLOCKS, BLOCKS, r_dc, r_dc2, out1, out2, 4 * BLOCKS);
+    compare("xt_read_dc_plane, 1,024 blocks", "values", BLOCKS, BLOCKS, r_dc, BOTH(r_dc), out1, out2, 4 * BLOCKS);
     for (size_t i = 0; i < 64 * BLOCKS; i++) old[i] = full[i] / 2;
-    compare("xt_write_ac_plane, 1,024 blocks", "values", 63 * BLOCKS, BLOCKS, w_ac, w_ac2, data, other, 1000);
+    compare("xt_write_ac_plane, 1,024 blocks", "values", 63 * BLOCKS, BLOCKS, w_ac, BOTH(w_ac), data, other, 1000);
     length_for(BLOCKS);
     { uint64_t p; xt_write_ac_plane(4, BLOCKS / 2, counts, 16, codes, 32, full, 63 * BLOCKS / 2, halfway, sizeof halfway, &p); w_ac(BLOCKS, &p); }
-    compare("xt_read_ac_plane, 1,024 blocks", "values", 63 * BLOCKS, BLOCKS, r_ac, r_ac2, out1, out2, 4 * 63 * BLOCKS);
-    compare("xt_inverse_transform, 1,024 blocks", "values", 64 * BLOCKS, BLOCKS, it, it2, out1, out2, 4 * 64 * BLOCKS);
-    compare("xt_merge, 3 components, both transforms", "pixels", PIXELS, PIXELS, mg, mg2, merged1, merged2, 6 * PIXELS);
-    compare("xt_merge, 1 component, straight curve", "pixels", PIXELS, PIXELS, mg1, mg12, merged1, merged2, 2 * PIXELS);
-    each = 60000;
-    compare("xt_box_bytes, packets of 60,000 bytes in order", "bytes", 3000000, 3000000, bx, bx2, box1, box2, 3000000);
-    each = 60000; backward = 1; made = 0;
-    compare("xt_box_bytes, the same backward", "bytes", 3000000, 3000000, bx, bx2, box1, box2, 3000000);
+    compare("xt_read_ac_plane, 1,024 blocks", "values", 63 * BLOCKS, BLOCKS, r_ac, BOTH(r_ac), out1, out2, 4 * 63 * BLOCKS);
+    compare("xt_inverse_transform, 1,024 blocks", "values", 64 * BLOCKS, BLOCKS, it, BOTH(it), out1, out2, 4 * 64 * BLOCKS);
+    merges("xt_merge, 3 components, both transforms, random samples", "xt_merge, 1 component, straight curve, random samples", 0);
+    merges("the same, 3 components, steady samples", "the same, 1 component, steady samples", 1);
+    boxes_of(60000, 0, "xt_box_bytes, packets of 60,000 bytes in order", 3000000);
+    boxes_of(60000, 1, "xt_box_bytes, the same backward", 3000000);
+    boxes_of(20, 0, "xt_box_bytes, packets of 20 bytes in order", 1000000);
+    boxes_of(20, 1, "xt_box_bytes, the same backward", 1000000);
+    boxes_of(20, 1, "xt_box_bytes, 80,000 packets of 20 bytes backward", 1600000);
     each = 20; backward = 0; made = 0;
-    compare("xt_box_bytes, packets of 20 bytes in order", "bytes", 1000000, 1000000, bx, bx2, box1, box2, 1000000);
-    backward = 1; made = 0;
-    compare("xt_box_bytes, the same backward", "bytes", 1000000, 1000000, bx, bx2, box1, box2, 1000000);
-    compare("xt_box_bytes, 80,000 packets of 20 bytes backward", "bytes", 1600000, 1600000, bx, bx2, box1, box2, 1600000);
-    each = 20; backward = 0; made = 0;
-    compare("xt_list_packets, packets of 20 bytes", "bytes", 30000, 30000, ls, ls2, box1, box2, 20000);
+    compare("xt_list_packets, packets of 20 bytes", "bytes", 30000, 30000, ls, BOTH(ls), box1, box2, 20000);
     growth();
     printf("\n%d differ\n", bad);
     return bad != 0;

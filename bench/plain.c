@@ -75,7 +75,7 @@ static size_t first_outside(const int32_t *v, size_t n, unsigned level, int dc)
     return n;
 }
 
-uint32_t plain_read_dc(uint32_t plane, size_t blocks, const uint8_t *data, size_t data_len, const int32_t *values, size_t n, int32_t *out, size_t room, uint64_t *place)
+uint32_t PLAIN(read_dc)(uint32_t plane, size_t blocks, const uint8_t *data, size_t data_len, const int32_t *values, size_t n, int32_t *out, size_t room, uint64_t *place)
 {
     size_t bytes = room * sizeof *out;
     if (plane < 1 || plane > 4 || blocks > 1024) return refused(20, 0, out, bytes, place);
@@ -94,7 +94,7 @@ uint32_t plain_read_dc(uint32_t plane, size_t blocks, const uint8_t *data, size_
     return 0;
 }
 
-uint32_t plain_write_dc(uint32_t plane, size_t blocks, const int32_t *values, size_t n, uint8_t *out, size_t room, uint64_t *place)
+uint32_t PLAIN(write_dc)(uint32_t plane, size_t blocks, const int32_t *values, size_t n, uint8_t *out, size_t room, uint64_t *place)
 {
     if (plane < 1 || plane > 4 || blocks > 1024) return refused(20, 0, out, room, place);
     if (n != blocks) return refused(21, 0, out, room, place);
@@ -139,7 +139,7 @@ static int take_code(bits *b, const uint8_t *counts, const uint8_t *codes)
     return -14;
 }
 
-uint32_t plain_read_ac(uint32_t plane, size_t blocks, const uint8_t *counts, size_t nc, const uint8_t *codes, size_t nv, const uint8_t *data, size_t data_len,
+uint32_t PLAIN(read_ac)(uint32_t plane, size_t blocks, const uint8_t *counts, size_t nc, const uint8_t *codes, size_t nv, const uint8_t *data, size_t data_len,
                        const int32_t *values, size_t n, int32_t *out, size_t room, uint64_t *place)
 {
     size_t bytes = room * sizeof *out;
@@ -233,7 +233,7 @@ static int last_new(const int32_t *b)
 
 static unsigned magnitude(int32_t v) { return v < 0 ? 0u - (unsigned)v : (unsigned)v; }
 
-uint32_t plain_write_ac(uint32_t plane, size_t blocks, const uint8_t *counts, size_t nc, const uint8_t *codes, size_t nv, const int32_t *values, size_t n, uint8_t *out, size_t room, uint64_t *place)
+uint32_t PLAIN(write_ac)(uint32_t plane, size_t blocks, const uint8_t *counts, size_t nc, const uint8_t *codes, size_t nv, const int32_t *values, size_t n, uint8_t *out, size_t room, uint64_t *place)
 {
     if (plane < 1 || plane > 4 || blocks > 1024) return refused(20, 0, out, room, place);
     if (n != 63 * blocks) return refused(21, 0, out, room, place);
@@ -294,7 +294,7 @@ static int32_t kernel(int x, int u)
     return m > 8 ? -cosines[16 - m] : cosines[m];
 }
 
-uint32_t plain_inverse_transform(uint32_t r, size_t blocks, const int32_t *values, size_t n, const uint16_t *q, size_t nq, int32_t *out, size_t room, uint64_t *place)
+uint32_t PLAIN(inverse_transform)(uint32_t r, size_t blocks, const int32_t *values, size_t n, const uint16_t *q, size_t nq, int32_t *out, size_t room, uint64_t *place)
 {
     size_t bytes = room * sizeof *out;
     if (r > 4 || blocks > 1024) return refused(20, 0, out, bytes, place);
@@ -339,7 +339,7 @@ static uint32_t be(const uint8_t *p, int n)
     return v;
 }
 
-uint32_t plain_box_bytes(const uint8_t *file, size_t len, uint32_t type, uint16_t instance, uint8_t *out, size_t room, uint64_t *place)
+uint32_t PLAIN(box_bytes)(const uint8_t *file, size_t len, uint32_t type, uint16_t instance, uint8_t *out, size_t room, uint64_t *place)
 {
     static packet packets[1 << 20];
     size_t n = 0, at = 2, total = 0;
@@ -394,7 +394,7 @@ static size_t text(uint8_t *out, size_t room, size_t at, const char *s)
     return at;
 }
 
-uint32_t plain_list_packets(const uint8_t *file, size_t len, uint8_t *out, size_t room, uint64_t *place)
+uint32_t PLAIN(list_packets)(const uint8_t *file, size_t len, uint8_t *out, size_t room, uint64_t *place)
 {
     char line[80];
     size_t to = text(out, room, 0, "instance number bytes type\n"), begin = to, at = 2;
@@ -451,7 +451,7 @@ static void coloured(int64_t *v, int64_t centre)
     v[2] = near(y + 1772000 * cb, 1000000);
 }
 
-uint32_t plain_merge(uint32_t rb, uint32_t rh, uint32_t rr, uint32_t components, size_t pixels, int transform, int residual_on, const int32_t *base, size_t nb,
+uint32_t PLAIN(merge)(uint32_t rb, uint32_t rh, uint32_t rr, uint32_t components, size_t pixels, int transform, int residual_on, const int32_t *base, size_t nb,
                      const int32_t *residual, size_t nr, uint16_t *out, size_t room, uint64_t *place)
 {
     size_t bytes = room * sizeof *out, n = components * pixels;

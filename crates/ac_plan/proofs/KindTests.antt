@@ -14,6 +14,7 @@ use Rattle.bits.specs.Digits.{odd}
 use Rattle.planes.specs.Dc.{dcBit}
 use Rattle.planes.specs.AcWrite.{keep, kindOf}
 use Rattle.planes.proofs.DcWriting.{low-bit}
+use Rattle.ac_plan.specs.Plan.{stillIs}
 
 -- equal bits, equal numbers
 pub is-zero : {v : ℤ} → SFits w32 v → ofZ w32 v ≡ 0 → v ≡ pos 0
@@ -40,3 +41,12 @@ kept (pos (suc zero)) f a b d = absurd (b refl)
 kept (pos (suc (suc n))) f a b d = ap keep (low-bit (pos (suc (suc n))) f ∙ let e : suc (suc n) % 2 ≡ n % 2 = omega arith in ap (λ (k : ℕ). eqb k 1) e)
 kept (negsuc zero) f a b d = absurd (d refl)
 kept (negsuc (suc n)) f a b d = ap keep (low-bit (negsuc (suc n)) f ∙ odd-next n)
+
+-- a value that is not zero counts for none
+pub not-zero : (v : ℤ) → (v ≡ pos 0 → ⊥) → 0 ≡ stillIs (kindOf v)
+unfolding kindOf
+not-zero (pos zero) n = absurd (n refl)
+not-zero (pos (suc zero)) n = refl
+not-zero (pos (suc (suc k))) n = refl
+not-zero (negsuc zero) n = refl
+not-zero (negsuc (suc k)) n = refl

@@ -3,15 +3,16 @@ use mathlib.Core.Path.{_≡_, refl, sym, ap, _∙_}
 use mathlib.Core.Bool.{Bool}
 use mathlib.Core.List.{List, [], _∷_}
 use mathlib.Core.Option.{Option, none, some}
-use Prim.Native.Nat.{ℕ, suc, _+_, _-_, _*_, _≤_, _<_}
+use Prim.Native.Nat.{ℕ, zero, suc, _+_, _-_, _*_, _≤_, _<_}
 use native.Mathlib.Numerals.{add-one}
 use native.Mathlib.Omega.{arith}
-use lib.IntN.{ℤ, pos}
+use lib.IntN.{ℤ, pos, negsuc}
 use lib.ListN.{length, getD, take, drop, drop-of-length-le}
 use lib.Seq.{drop-cons, drop-drop}
+use Rattle.bits.specs.Digits.{odd}
 use Rattle.planes.specs.AcRead.{cut}
-use Rattle.planes.specs.AcWrite.{Kind, kindOf, ahead, oneMore, quiet, unlessNew}
-use Rattle.ac_plan.specs.Plan.{kindsFrom, kindBlocks, kindIs, comingIs}
+use Rattle.planes.specs.AcWrite.{Kind, fresh, kindOf, ahead, oneMore, quiet, unlessNew}
+use Rattle.ac_plan.specs.Plan.{kindsFrom, kindBlocks, kindIs, stillIs, comingIs}
 use Rattle.ac_plan.specs.declared.Change.{Change}
 use Rattle.ac_plan.specs.declared.Change.the-variants.{Kept, Still, Fresh}
 use Rattle.ac_plan.specs.declared.Coming.{Coming}
@@ -70,6 +71,20 @@ module _ {block : List ℤ} {from zeros i : ℕ} (l : Looked block from zeros i)
     pub look-fresh : {b : Bool} → change ≡ Fresh b → comingIs (Value zeros b) ≡ ahead (kindsFrom block from)
     unfolding kindIs comingIs ahead
     look-fresh {b} q = ap (λ (k : ℕ). some (k, b)) (omega arith) ∙ here q
+
+  -- a value that is not new
+  pub look-on : (v : ℤ) → i < length block → getD block i (pos 0) ≡ v → (v ≡ pos 1 → ⊥) → (v ≡ negsuc 0 → ⊥) → Looked block from (zeros + stillIs (kindOf v)) (i + 1)
+  unfolding kindOf kindIs
+  look-on (pos zero) h e n m = look-still h {change = Still} (rw e) refl
+  look-on (pos (suc zero)) h e n m = absurd (n refl)
+  look-on (pos (suc (suc k))) h e n m = let z : zeros + 0 ≡ zeros = omega arith in rw z (look-kept h {change = Kept (odd k)} (rw e) refl)
+  look-on (negsuc zero) h e n m = absurd (m refl)
+  look-on (negsuc (suc k)) h e n m = let z : zeros + 0 ≡ zeros = omega arith in rw z (look-kept h {change = Kept (odd k)} (rw e) refl)
+
+  -- one that is
+  pub look-new : (v : ℤ) (b : Bool) → i < length block → getD block i (pos 0) ≡ v → kindOf v ≡ fresh b → comingIs (Value zeros b) ≡ ahead (kindsFrom block from)
+  unfolding kindIs
+  look-new v b h e k = look-fresh h {change = Fresh b} (sym (ap kindOf e ∙ k)) refl
 
 -- ---- blocks from one on
 

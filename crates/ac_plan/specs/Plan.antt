@@ -34,6 +34,12 @@ kindIs (Kept b) = keep b
 kindIs Still = still
 kindIs (Fresh b) = fresh b
 
+-- 1 for a zero that stays
+abbrev pub stillIs : Kind → ℕ
+stillIs (keep b) = 0
+stillIs still = 1
+stillIs (fresh b) = 0
+
 unfoldable pub comingIs : Coming → Option (ℕ × Bool)
 comingIs (Value zeros sign) = some (zeros, sign)
 comingIs Quiet = none

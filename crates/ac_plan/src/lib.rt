@@ -5,7 +5,7 @@ ghost use lib.ListN.{length};
 ghost use Rattle.planes.specs.Task as defined;
 ghost use Rattle.planes.specs.AcWrite as written;
 ghost use Rattle.ac_tasks.specs.Code.{taskOf, openOf};
-ghost use Rattle.ac_plan.specs.Plan.{kindsFrom, kindBlocks, kindIs, comingIs, Planned};
+ghost use Rattle.ac_plan.specs.Plan.{kindsFrom, kindBlocks, kindIs, stillIs, comingIs, Planned};
 use ac_tasks::Job;
 use ac_tasks::Open;
 
@@ -38,6 +38,16 @@ pub fn kind_of(value: i32) -> Change
     Change::Kept(value % 2 != 0)
 }
 
+// 1 for a zero. (A count and no branch: what stands between two new values is hard to foresee.)
+fn zero_is(value: i32) -> usize
+    ensures { λ r. ⌜ (r ≡ stillIs (written.kindOf value)) × (r ≤ 1) ⌝ }
+{
+    if value == 0 {
+        return 1;
+    }
+    0
+}
+
 // The next new value of a block, from a position on.
 pub fn ahead_of(block: &[i32], from: usize) -> Coming
     ensures { λ r. ⌜ comingIs r ≡ written.ahead (kindsFrom (now (block .entry)) from) ⌝ }
@@ -45,15 +55,15 @@ pub fn ahead_of(block: &[i32], from: usize) -> Coming
     let mut zeros = 0;
     let mut i = from;
     while i < block.len() {
-        let change = kind_of(block[i]);
-        match change {
-            Change::Fresh(positive) => return Coming::Value(zeros, positive),
-            Change::Kept(_) => i += 1,
-            Change::Still => {
-                zeros += 1;
-                i += 1;
-            }
+        let value = block[i];
+        if value == 1 {
+            return Coming::Value(zeros, true);
         }
+        if value == -1 {
+            return Coming::Value(zeros, false);
+        }
+        zeros += zero_is(value);
+        i += 1;
     }
     Coming::Quiet
 }

@@ -1,16 +1,18 @@
 -- A position's task and tokens, and the positions of a block one after another. Assumes nothing.
 use mathlib.Core.Path.{_≡_, refl, sym, ap, _∙_}
 use mathlib.Core.Bool.{Bool, true}
-use mathlib.Core.List.{List, [], _∷_, _++_, append-assoc}
-use mathlib.Core.Option.{Option}
-use Prim.Native.Nat.{ℕ, _+_, _^_, _≤_, _<_}
+use mathlib.Core.List.{List, [], _∷_, _++_, map}
+use mathlib.Core.Option.{Option, none, some}
+use Prim.Native.Nat.{ℕ, zero, suc, _+_, _-_, _^_, _≤_, _<_}
 use native.Mathlib.Omega.{arith}
 use lib.IntN.{ℤ, pos}
-use lib.ListN.{length, getD, length-map}
-use Rattle.bits.specs.Code.{Sound}
+use lib.ListN.{length, getD, length-map, length-append}
+use Rattle.bits.specs.Code.{Sound, Puts}
+use Rattle.bits.specs.declared.Putter.{Putter}
+use Rattle.bits.proofs.Putting.{puts-none, puts-then}
 use Rattle.codes.specs.Table.{Table, goodTable}
-use Rattle.planes.specs.Task.{Task, over}
-use Rattle.planes.specs.AcWrite.{Kind, Token, kindOf, plan, emit, choose, tell, mark, after, writeBlock}
+use Rattle.planes.specs.Task.{Task, walk, pass, over}
+use Rattle.planes.specs.AcWrite.{Kind, keep, still, fresh, Token, raw, kindOf, plan, emit, choose, tell, writeBlock}
 use Rattle.ac_tasks.specs.Code.{taskOf, openOf}
 use Rattle.ac_tasks.specs.declared.Job.{Job}
 use Rattle.ac_tasks.specs.declared.Job.the-variants.{Leave, Set, Ended}
@@ -18,12 +20,14 @@ use Rattle.ac_tasks.specs.declared.Open.{Open}
 use Rattle.ac_tasks.specs.declared.Open.the-variants.{Nothing, Doing}
 use Rattle.ac_plan.specs.Plan.{kindsFrom, kindIs, Short, Planned}
 use Rattle.ac_plan.specs.declared.Change.{Change}
+use Rattle.ac_plan.specs.declared.Change.the-variants.{Kept, Still, Fresh}
 use Rattle.ac_plan.proofs.Looking.{kinds-cons, kinds-end}
-use Rattle.ac_writer.specs.Telling.{PenReady, Told, Begins, stepOf, Moves}
+use Rattle.ac_writer.specs.Telling.{PenReady, Told, Begins, Carries, Works, Moves}
 use Rattle.ac_writer.specs.declared.Pen.{Pen}
 use Rattle.ac_writer.specs.declared.State.{State}
 use Rattle.ac_writer.specs.declared.Begun.{Begun}
-use Rattle.ac_writer.proofs.Tokens.{told-none, told-then, Telling, telling-start, telling-turn, telling-end}
+use Rattle.ac_writer.specs.declared.Moved.{Moved}
+use Rattle.ac_writer.proofs.Tokens.{told-none, told-bits, Telling, telling-start, telling-turn, telling-end}
 use Rattle.ac_writer.proofs.Lengths.{tell-length, block-length}
 
 -- ---- a task that a code can tell
@@ -54,26 +58,100 @@ module _ {T : Table} {before : List ℕ} {s : State} (kinds : List Kind) (later 
   begins-near b g h =
       (b .told .put .sound, omega (arith, b .told .put .near, tell-length T g (openOf (s .task)) (choose (openOf (s .task)) kinds later), h .near))
 
-  pub moves-on : {middle last : List ℕ} {b : Begun} {p : Pen} {j : Open} (change : Change) (x : Kind) → Begins T before middle s b kinds later
-      → Told T middle last (b .pen) p (mark (kindIs change)) → kindIs change ≡ x → openOf j ≡ after (taskOf (b .job)) (kindIs change)
-      → Moves T before last s (record { pen = p; task = j }) (stepOf (openOf (s .task)) x kinds later)
-  unfolding stepOf
-  moves-on change x g f e q = record { told = told-then (g .told) (rw e at f); task = q ∙ rw (g .job, e) }
-
 -- ---- the positions of a block
 
-block-at : (o : Option Task) (x : Kind) (all kinds : List Kind) (later : List (List Kind)) → all ≡ x ∷ kinds
-    → writeBlock o all later
-    ≡ (stepOf o x all later .0 ++ writeBlock (stepOf o x all later .1) kinds later .0, writeBlock (stepOf o x all later .1) kinds later .1)
-unfolding writeBlock stepOf
-block-at o x all kinds later e =
-    rw e
-    (ap (λ (l : List Token). (l, writeBlock (after (choose o (x ∷ kinds) later) x) kinds later .1))
-    (sym (append-assoc (tell o (choose o (x ∷ kinds) later)) (mark x) (writeBlock (after (choose o (x ∷ kinds) later) x) kinds later .0))))
+-- what a task comes to at a position
+open-kept : (t : Task) (b : Bool) (all kinds : List Kind) (later : List (List Kind)) → all ≡ keep b ∷ kinds
+    → writeBlock (some t) all later ≡ (raw b ∷ writeBlock (some t) kinds later .0, writeBlock (some t) kinds later .1)
+unfolding writeBlock
+open-kept t b all kinds later e = rw e
+
+open-still : (t : Task) (all kinds : List Kind) (later : List (List Kind)) → all ≡ still ∷ kinds → writeBlock (some t) all later ≡ writeBlock (pass t) kinds later
+unfolding writeBlock
+open-still t all kinds later e = rw e
+
+open-fresh : (t : Task) (b : Bool) (all kinds : List Kind) (later : List (List Kind)) → all ≡ fresh b ∷ kinds → writeBlock (some t) all later ≡ writeBlock (pass t) kinds later
+unfolding writeBlock
+open-fresh t b all kinds later e = rw e
+
+-- a code is told first, where none is open
+open-told : (o : Option Task) (x : Kind) (all kinds : List Kind) (later : List (List Kind)) → all ≡ x ∷ kinds
+    → writeBlock o all later ≡ (tell o (choose o all later) ++ writeBlock (some (choose o all later)) all later .0, writeBlock (some (choose o all later)) all later .1)
+unfolding writeBlock
+open-told o x all kinds later e = rw e
 
 block-none : (o : Option Task) (kinds : List Kind) (later : List (List Kind)) → kinds ≡ [] → writeBlock o kinds later ≡ ([], over o)
 unfolding writeBlock
 block-none o kinds later e = rw e
+
+-- ---- corrections from a position on
+
+raw-append : (a b : List Bool) (more : List Token) → map raw (a ++ b) ++ more ≡ map raw a ++ (map raw b ++ more)
+raw-append [] b more = refl
+raw-append (x ∷ a) b more = ap (_∷_ (raw x)) (raw-append a b more)
+
+pub carries-none : {before : List ℕ} {p : Putter} {block : List ℤ} {o : Option Task} {i : ℕ} → Sound p → Carries before before p p block o o i i
+carries-none h = record { bits = []; put = puts-none h; few = omega arith; same = λ later. refl }
+
+module _ {before after : List ℕ} {p r : Putter} {block : List ℤ} {o : Option Task} {i j : ℕ} where
+  pub carries-near : {o′ : Option Task} → Carries before after p r block o o′ i j → j ≤ length block → length block ≤ 63 → p .at < 2 ^ 61 → Sound r × (r .at < 2 ^ 62)
+  carries-near k h l n = (k .put .sound, omega (arith, k .put .near, k .few))
+
+  -- behind the block, whatever walk is open comes to nothing
+  pub carries-past : {n : ℕ} {sign : Option Bool} → Carries before after p r block o (some (walk n sign)) i j → length block ≤ j → Carries before after p r block o none i j
+  carries-past {n} {sign} k h = record {
+    bits = k .bits;
+    put = k .put;
+    few = k .few;
+    same = λ later.
+        rw (block-none none (kindsFrom block j) later (kinds-end block j h))
+        (rw (block-none (some (walk n sign)) (kindsFrom block j) later (kinds-end block j h)) at (k .same later));
+  }
+
+  module _ {t : Task} (k : Carries before after p r block o (some t) i j) (h : j < length block) {change : Change} (e : kindIs change ≡ kindOf (getD block j (pos 0))) where
+    here : {d : Change} → change ≡ d → kindsFrom block j ≡ kindIs d ∷ kindsFrom block (j + 1)
+    here q = kinds-cons block j h ∙ ap (λ (x : Kind). x ∷ kindsFrom block (j + 1)) (sym e ∙ ap kindIs q)
+
+    pub carries-kept : {last : List ℕ} {q : Putter} {b : Bool} → change ≡ Kept b → Puts after last r q (b ∷ []) → Carries before last p q block o (some t) i (j + 1)
+    unfolding kindIs
+    carries-kept {last} {q} {b} c f = record {
+      bits = k .bits ++ (b ∷ []);
+      put = puts-then (k .put) f;
+      few = omega (arith, k .few, length-append (k .bits) (b ∷ []));
+      same = λ later.
+          k .same later
+          ∙ ap (λ (x : List Token × Option Task). (map raw (k .bits) ++ x .0, x .1)) (open-kept t b (kindsFrom block j) (kindsFrom block (j + 1)) later (here c))
+          ∙ ap (λ (l : List Token). (l, writeBlock (some t) (kindsFrom block (j + 1)) later .1)) (sym (raw-append (k .bits) (b ∷ []) (writeBlock (some t) (kindsFrom block (j + 1)) later .0)));
+    }
+
+    pub carries-still : change ≡ Still → Carries before after p r block o (pass t) i (j + 1)
+    unfolding kindIs
+    carries-still c = record {
+      bits = k .bits;
+      put = k .put;
+      few = omega (arith, k .few);
+      same = λ later. k .same later ∙ ap (λ (x : List Token × Option Task). (map raw (k .bits) ++ x .0, x .1)) (open-still t (kindsFrom block j) (kindsFrom block (j + 1)) later (here c));
+    }
+
+    pub carries-fresh : {b : Bool} → change ≡ Fresh b → Carries before after p r block o (pass t) i (j + 1)
+    unfolding kindIs
+    carries-fresh {b} c = record {
+      bits = k .bits;
+      put = k .put;
+      few = omega (arith, k .few);
+      same = λ later. k .same later ∙ ap (λ (x : List Token × Option Task). (map raw (k .bits) ++ x .0, x .1)) (open-fresh t b (kindsFrom block j) (kindsFrom block (j + 1)) later (here c));
+    }
+
+-- the walk's count, one less or done
+pub walked : {before after : List ℕ} {p r : Putter} {block : List ℤ} {o : Option Task} {i j : ℕ} (n : ℕ) (sign : Option Bool)
+    → Carries before after p r block o (pass (walk n sign)) i j → (n ≡ 0 → ⊥) → Carries before after p r block o (some (walk (n - 1) sign)) i j
+walked zero sign k h = absurd (h refl)
+walked (suc n) sign k h = let q : suc n - 1 ≡ n = omega arith in rw q k
+
+pub landed : {before after : List ℕ} {p r : Putter} {block : List ℤ} {o : Option Task} {i j : ℕ} (n : ℕ) (sign : Option Bool)
+    → Carries before after p r block o (pass (walk n sign)) i j → n ≡ 0 → Carries before after p r block o none i j
+landed zero sign k h = k
+landed (suc n) sign k h = absurd (omega arith)
 
 -- behind i positions, what is still to tell comes to what the block comes to
 pub record Walking (T : Table) (before memory : List ℕ) (s q : State) (block : List ℤ) (i : ℕ) (later : List (List Kind)) : Type 0 where
@@ -95,13 +173,22 @@ module _ {T : Table} {before : List ℕ} {s : State} (block : List ℤ) (later :
       near = omega (arith, w .telling .going .near, block-length T g (openOf (s .task)) (kindsFrom block 0) later, kinds-length block);
     }
 
-    pub walk-turn : {after : List ℕ} {r : State} → i < length block
-        → Moves T memory after q r (stepOf (openOf (q .task)) (kindOf (getD block i (pos 0))) (kindsFrom block i) later) → Walking T before after s r block (i + 1) later
-    walk-turn {after} {r} h m =
-        let e = block-at (openOf (q .task)) (kindOf (getD block i (pos 0))) (kindsFrom block i) (kindsFrom block (i + 1)) later (kinds-cons block i h) in
+    -- a task is begun at position i, and carried out to position j
+    pub walk-turn : {middle after : List ℕ} {b : Begun} {m : Moved} → i < length block → Begins T memory middle q b (kindsFrom block i) later
+        → Works middle after (b .pen) (taskOf (b .job)) i block m → Walking T before after s (record { pen = m .pen; task = m .task }) block (m .at) later
+    walk-turn {middle} {after} {b} {m} h g k =
+        let o = openOf (q .task) in
+        let t = choose o (kindsFrom block i) later in
+        let bits = k .carried .bits in
+        let e : writeBlock o (kindsFrom block i) later ≡ (tell o t ++ (map raw bits ++ writeBlock (openOf (m .task)) (kindsFrom block (m .at)) later .0), writeBlock (openOf (m .task)) (kindsFrom block (m .at)) later .1) =
+        open-told o _ (kindsFrom block i) (kindsFrom block (i + 1)) later (kinds-cons block i h)
+        ∙ ap (λ (x : List Token × Option Task). (tell o t ++ x .0, x .1)) (rw (g .job) at (k .carried .same later))
+        in
         record {
-          telling = rw (m .task) (telling-turn (stepOf (openOf (q .task)) (kindOf (getD block i (pos 0))) (kindsFrom block i) later .0) _ (rw (ap (λ (x : List Token × Option Task). x .0) e) at (w .telling)) (m .told));
-          task = rw (m .task) (sym (ap (λ (x : List Token × Option Task). x .1) e) ∙ w .task);
+          telling =
+              telling-turn (map raw bits) _ (telling-turn (tell o t) _ (rw (ap (λ (x : List Token × Option Task). x .0) e) at (w .telling)) (g .told))
+              (told-bits bits (k .carried .put) (k .lack));
+          task = sym (ap (λ (x : List Token × Option Task). x .1) e) ∙ w .task;
         }
 
     pub walk-end : {j : Open} → length block ≤ i → openOf j ≡ over (openOf (q .task))

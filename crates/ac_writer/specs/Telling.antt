@@ -1,19 +1,25 @@
 -- What the code's pen and state stand for, and what it means that tokens were told.
 use mathlib.Core.Path.{_≡_}
-use mathlib.Core.List.{List, _++_}
-use mathlib.Core.Option.{Option}
-use Prim.Native.Nat.{ℕ, _^_, _<_}
+use mathlib.Core.Bool.{Bool}
+use mathlib.Core.List.{List, _++_, map}
+use mathlib.Core.Option.{Option, some}
+use Prim.Native.Nat.{ℕ, _+_, _^_, _≤_, _<_}
+use lib.IntN.{ℤ}
+use lib.ListN.{length}
 use Rattle.laws.specs.declared.Found.{Found}
 use Rattle.laws.specs.declared.Found.the-variants.{At, Nothing}
 use Rattle.bits.specs.Code.{Sound, Puts}
 use Rattle.bits.proofs.Putting.{fresh}
 use Rattle.codes.specs.Table.{Table}
 use Rattle.planes.specs.Task.{Task}
-use Rattle.planes.specs.AcWrite.{Kind, Token, choose, tell, mark, after, lacking, spelled}
+use Rattle.planes.specs.AcWrite.{Kind, Token, raw, choose, tell, writeBlock, lacking, spelled}
+use Rattle.ac_plan.specs.Plan.{kindsFrom}
+use Rattle.bits.specs.declared.Putter.{Putter}
 use Rattle.ac_tasks.specs.Code.{taskOf, openOf}
 use Rattle.ac_writer.specs.declared.Pen.{Pen}
 use Rattle.ac_writer.specs.declared.State.{State}
 use Rattle.ac_writer.specs.declared.Begun.{Begun}
+use Rattle.ac_writer.specs.declared.Moved.{Moved}
 
 -- "19 .. first needed in writing order": what was found first stays
 abbrev pub firstOf : Found → Found → Found
@@ -39,9 +45,18 @@ pub record Begins (T : Table) (before after : List ℕ) (s : State) (r : Begun) 
   pub job : taskOf (r .job) ≡ choose (openOf (s .task)) kinds later
   pub told : Told T before after (s .pen) (r .pen) (tell (openOf (s .task)) (choose (openOf (s .task)) kinds later))
 
--- a position: its tokens, and the task behind it; `kinds` begin with its own, x
-unfoldable pub stepOf : Option Task → Kind → List Kind → List (List Kind) → List Token × Option Task
-stepOf o x kinds later = (tell o (choose o kinds later) ++ mark x, after (choose o kinds later) x)
+-- from position i on, with task o open, these bits were put and the code came to position j and o′: the block is those bits and what is left of it
+pub record Carries (before after : List ℕ) (p r : Putter) (block : List ℤ) (o o′ : Option Task) (i j : ℕ) : Type 0 where
+  pub bits : List Bool
+  pub put : Puts before after p r bits
+  pub few : length bits + i ≤ j
+  pub same : (later : List (List Kind)) → writeBlock o (kindsFrom block i) later ≡ (map raw bits ++ writeBlock o′ (kindsFrom block j) later .0, writeBlock o′ (kindsFrom block j) later .1)
+
+-- the same of a pen and a task
+pub record Works (before after : List ℕ) (p : Pen) (t : Task) (from : ℕ) (block : List ℤ) (r : Moved) : Type 0 where
+  pub carried : Carries before after (p .putter) (r .pen .putter) block (some t) (openOf (r .task)) from (r .at)
+  pub lack : r .pen .lack ≡ p .lack
+  pub on : from < r .at
 
 -- tokens were told, and this task is open then
 pub record Moves (T : Table) (before after : List ℕ) (s r : State) (move : List Token × Option Task) : Type 0 where

@@ -1,19 +1,20 @@
 // AC planes written (01, "The writer takes level j values, j 1 to 4"): one pass that puts the bits and keeps the first code that the table lacks.
 ghost use mathlib.Core.Path.{_≡_};
-ghost use mathlib.Core.Bool.{true};
+ghost use mathlib.Core.Bool.{Bool, true};
 ghost use mathlib.Core.List.{[], _∷_};
-ghost use Prim.Native.Nat.{_+_, _*_, _^_, _≤_, _<_};
-ghost use lib.IntN.{pos};
-ghost use lib.ListN.{length, getD};
+ghost use Prim.Native.Nat.{ℕ, _+_, _*_, _^_, _≤_, _<_};
+ghost use lib.ListN.{length};
 ghost use Rattle.laws.specs.declared.Found.the-variants.{At};
 ghost use Rattle.answers.specs.Verdict.{unless, fitting, Meets, Tried};
 ghost use Rattle.bits.specs.Code.{Sound};
 ghost use Rattle.codes.specs.Table.{Table, table, goodTable};
 ghost use Rattle.planes.specs.Task.{ended};
+ghost use Rattle.planes.specs.Task as task;
 ghost use Rattle.planes.specs.AcWrite as written;
 ghost use Rattle.ac_tasks.specs.Code.{taskOf, openOf};
-ghost use Rattle.ac_plan.specs.Plan.{kindsFrom, kindBlocks, kindIs, Short};
-ghost use Rattle.ac_writer.specs.Telling.{firstOf, newPen, PenReady, Told, Begins, stepOf, Moves};
+ghost use Rattle.ac_plan.specs.Plan.{kindsFrom, kindBlocks, Short};
+ghost use Rattle.ac_writer.specs.Telling.{firstOf, newPen, PenReady, Told, Begins, Carries, Works, Moves};
+ghost use mathlib.Core.Option.{Option, none, some};
 use ac_plan::Change;
 use ac_tasks::Job;
 use ac_tasks::Open;
@@ -39,6 +40,31 @@ pub struct State {
 pub struct Begun {
     pub pen: Pen,
     pub job: Job,
+}
+
+// The putter behind some corrections, and the next position.
+pub struct Gone {
+    pub putter: Putter,
+    pub at: usize,
+}
+
+// The pen behind a task, the next position, and what is open there.
+pub struct Moved {
+    pub pen: Pen,
+    pub at: usize,
+    pub task: Open,
+}
+
+fn went_on(g: Gone, lack: Found, task: Open) -> Moved
+    ensures { λ r. ⌜ r ≡ record { pen = record { putter = g .putter; lack = lack }; at = g .at; task = task } ⌝ }
+{
+    let putter = g.putter;
+    let pen = Pen { putter, lack };
+    Moved {
+        pen,
+        at: g.at,
+        task,
+    }
 }
 
 // "19 .. the code's value": the first one stays.
@@ -131,15 +157,90 @@ fn emit(destination: &mut [u8], counts: &[u8], codes: &[u8], pen: Pen, job: Job)
     }
 }
 
-// A correction bit, where the value takes one.
-fn mark(destination: &mut [u8], pen: Pen, change: Change) -> Pen
-    requires { ⌜ (Sound (pen .putter)) × (pen .putter .at < 2 ^ 61) ⌝ }
-    ensures { λ r. ⌜ ((T : Table) → Told T (now (destination .entry)) (now (destination .exit)) pen r (written.mark (kindIs change))) ⌝ }
+// Corrections from a position on: so many zeros and new values are passed, and one more. (No task is kept from position to position: a copied enum is slow.)
+fn walk(destination: &mut [u8], p: Putter, zeros: usize, from: usize, block: &[i32]) -> Gone
+    requires { ⌜ (Sound p) × (p .at < 2 ^ 61) ⌝ }
+    requires { ⌜ (from < length (now block)) × (length (now block) ≤ 63) ⌝ }
+    ensures { λ r. ⌜ ((sign : Option Bool) → Carries (now (destination .entry)) (now (destination .exit)) p (r .putter) (now (block .entry)) (some (task.walk zeros sign)) none from (r .at)) × (from < r .at) ⌝ }
 {
-    match change {
-        Change::Kept(bit) => tell_bit(destination, pen, bit),
-        Change::Still => pen,
-        Change::Fresh(_) => pen,
+    let mut q = p;
+    let mut n = zeros;
+    let mut i = from;
+    while i < block.len() {
+        let change = ac_plan::kind_of(block[i]);
+        match change {
+            Change::Kept(bit) => {
+                q = bits::put_bit(destination, q, bit);
+                i += 1;
+            }
+            Change::Still => {
+                if n == 0 {
+                    return Gone {
+                        putter: q,
+                        at: i + 1,
+                    };
+                }
+                n -= 1;
+                i += 1;
+            }
+            Change::Fresh(_) => {
+                if n == 0 {
+                    return Gone {
+                        putter: q,
+                        at: i + 1,
+                    };
+                }
+                n -= 1;
+                i += 1;
+            }
+        }
+    }
+    Gone { putter: q, at: i }
+}
+
+// The rest of a block in an end run: corrections alone.
+fn rest(destination: &mut [u8], p: Putter, from: usize, block: &[i32]) -> Gone
+    requires { ⌜ (Sound p) × (p .at < 2 ^ 61) ⌝ }
+    requires { ⌜ (from < length (now block)) × (length (now block) ≤ 63) ⌝ }
+    ensures { λ r. ⌜ ((n : ℕ) → Carries (now (destination .entry)) (now (destination .exit)) p (r .putter) (now (block .entry)) (some (task.ended n)) (some (task.ended n)) from (r .at)) × (from < r .at) ⌝ }
+{
+    let mut q = p;
+    let mut i = from;
+    while i < block.len() {
+        let change = ac_plan::kind_of(block[i]);
+        match change {
+            Change::Kept(bit) => {
+                q = bits::put_bit(destination, q, bit);
+                i += 1;
+            }
+            Change::Still => i += 1,
+            Change::Fresh(_) => i += 1,
+        }
+    }
+    Gone { putter: q, at: i }
+}
+
+// A task from a position on.
+fn do_job(destination: &mut [u8], pen: Pen, job: Job, from: usize, block: &[i32]) -> Moved
+    requires { ⌜ (Sound (pen .putter)) × (pen .putter .at < 2 ^ 61) ⌝ }
+    requires { ⌜ (from < length (now block)) × (length (now block) ≤ 63) ⌝ }
+    ensures { λ r. ⌜ Works (now (destination .entry)) (now (destination .exit)) pen (taskOf job) from (now (block .entry)) r ⌝ }
+{
+    let p = pen.putter;
+    let lack = pen.lack;
+    match job {
+        Job::Leave(n) => {
+            let g = walk(destination, p, n, from, block);
+            went_on(g, lack, Open::Nothing)
+        }
+        Job::Set(n, _) => {
+            let g = walk(destination, p, n, from, block);
+            went_on(g, lack, Open::Nothing)
+        }
+        Job::Ended(n) => {
+            let g = rest(destination, p, from, block);
+            went_on(g, lack, Open::Doing(Job::Ended(n)))
+        }
     }
 }
 
@@ -171,32 +272,7 @@ fn begin(
     }
 }
 
-// One position of a block.
-fn step(
-    destination: &mut [u8],
-    counts: &[u8],
-    codes: &[u8],
-    state: State,
-    block: &[i32],
-    i: usize,
-    later: &[i32],
-    blocks: usize,
-) -> State
-    requires { ⌜ PenReady (state .pen) ⌝ }
-    requires { ⌜ (goodTable (table (now counts) (now codes)) ≡ true) × (i < length (now block)) ⌝ }
-    requires { ⌜ (length (now later) ≡ 63 * blocks) × (blocks ≤ 1024) ⌝ }
-    ensures { λ r. ⌜ Moves (table (now (counts .entry)) (now (codes .entry))) (now (destination .entry)) (now (destination .exit)) state r (stepOf (openOf (state .task)) (written.kindOf (getD (now (block .entry)) i (pos 0))) (kindsFrom (now (block .entry)) i) (kindBlocks blocks (now (later .entry)))) ⌝ }
-{
-    let b = begin(destination, counts, codes, state, block, i, later, blocks);
-    let told = b.pen;
-    let job = b.job;
-    let change = ac_plan::kind_of(block[i]);
-    let pen = mark(destination, told, change);
-    let task = ac_plan::after(job, change);
-    State { pen, task }
-}
-
-// A block: its positions in order.
+// A block: its tasks in order.
 fn put_block(
     destination: &mut [u8],
     counts: &[u8],
@@ -214,8 +290,17 @@ fn put_block(
     let mut s = state;
     let mut i = 0;
     while i < block.len() {
-        s = step(destination, counts, codes, s, block, i, later, blocks);
-        i += 1;
+        let b = begin(destination, counts, codes, s, block, i, later, blocks);
+        let told = b.pen;
+        let job = b.job;
+        let m = do_job(destination, told, job, i, block);
+        i = m.at;
+        let next = m.pen;
+        let open = m.task;
+        s = State {
+            pen: next,
+            task: open,
+        };
     }
     let pen = s.pen;
     let last = s.task;

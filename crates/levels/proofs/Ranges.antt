@@ -1,6 +1,6 @@
 -- A level's range as the code tests it, and what a value inside it is worth to a caller. Assumes nothing.
 use mathlib.Core.Path.{_≡_, refl, sym, subst, _∙_}
-use mathlib.Core.Bool.{Bool, true, false}
+use mathlib.Core.Bool.{Bool, true, false, _&&_}
 use mathlib.Core.List.{List}
 use mathlib.Core.Logic.{⊎-elim}
 use Prim.Native.Nat.{ℕ, zero, suc, _+_, _^_, _<_, _≤_}
@@ -13,9 +13,10 @@ use lib.Pow.{pow-pos}
 use lib.Signed.{mag, leZ, ltZ}
 use Rattle.laws.proofs.Integers.{split}
 use Rattle.laws.proofs.Lists.{each}
-use Rattle.laws.proofs.First.{first-none}
+use Rattle.laws.proofs.First.{first-none, first-more, all-pass}
+use Rattle.laws.specs.First.{firstFail}
 use Rattle.laws.specs.declared.Found.the-variants.{Nothing}
-use Rattle.levels.specs.Level.{dcIn, inLevel, inside, firstOutside, isDc}
+use Rattle.levels.specs.Level.{dcIn, inLevel, inside, firstOutside, isDc, between}
 use Rattle.levels.specs.declared.Part.{Part}
 
 pub half-range : (level : ℕ) → level ≤ 4 → 2 ^ (11 + level) ≤ 32768
@@ -56,6 +57,57 @@ module _ (level : ℕ) (v : ℤ) where
         go zero v p b = absurd (omega arith)
         go (suc m) (pos n) p b = sym (lt-ltb n (suc m) (leb-false (suc m) n b))
         go (suc m) (negsuc n) p b = sym (leb·suc-suc (suc n) m)
+
+-- ---- all values at once: between the AC range's bounds is inside every range
+
+and-left : (a b : Bool) → (a && b) ≡ true → a ≡ true
+and-left true b e = refl
+and-left false b e = e
+
+and-right : (a b : Bool) → (a && b) ≡ true → b ≡ true
+and-right true b e = e
+and-right false b e = absurd (subst T (sym e) tt)
+
+-- a turn of the loop: the flag still says what it said, and of one value more
+pub between-turn : (low high : ℤ) (values : List ℤ) (i : ℕ) (good : Bool)
+    → (good ≡ true → firstFail i (between low high values) ≡ Nothing)
+    → (good && ltZ low (getD values i (pos 0)) && ltZ (getD values i (pos 0)) high) ≡ true
+    → firstFail (i + 1) (between low high values) ≡ Nothing
+unfolding between
+between-turn low high values i good before e =
+    let l = ltZ low (getD values i (pos 0)) in
+    let h = ltZ (getD values i (pos 0)) high in
+    first-more (between low high values) i (before (and-left good l (and-left (good && l) h e)))
+    (rw (and-right good l (and-left (good && l) h e), and-right (good && l) h e))
+
+module _ (level : ℕ) (v : ℤ) (above : ltZ (negℤ (pos (2 ^ (11 + level)))) v ≡ true) (below : ltZ v (pos (2 ^ (11 + level))) ≡ true) where
+  pub in-all : (dc : Bool) → inLevel dc level v ≡ true
+  unfolding inLevel
+  in-all false = go (2 ^ (11 + level)) v (pow-pos (11 + level)) above below
+    where
+      go : (r : ℕ) (v : ℤ) → 0 < r → ltZ (negℤ (pos r)) v ≡ true → ltZ v (pos r) ≡ true → ltb (natAbs v) r ≡ true
+      go zero v p a b = absurd (omega arith)
+      go (suc m) (pos n) p a b = b
+      go (suc m) (negsuc n) p a b = leb·suc-suc (suc n) m ∙ a
+  in-all true = sym (by-mag level v) ∙ go (2 ^ (11 + level)) v (pow-pos (11 + level)) above below
+    where
+      go : (r : ℕ) (v : ℤ) → 0 < r → ltZ (negℤ (pos r)) v ≡ true → ltZ v (pos r) ≡ true → ltb (mag v) r ≡ true
+      go zero v p a b = absurd (omega arith)
+      go (suc m) (pos n) p a b = b
+      go (suc m) (negsuc n) p a b = lt-ltb n (suc m) (omega (arith, ltb-true (suc n) (suc m) (leb·suc-suc (suc n) m ∙ a)))
+
+-- what the test of all values says of every part
+pub between-inside : (part : Part) (level : ℕ) (values : List ℤ)
+    → firstFail (length values) (between (negℤ (pos (2 ^ (11 + level)))) (pos (2 ^ (11 + level))) values) ≡ Nothing
+    → firstOutside part level values ≡ Nothing
+unfolding firstOutside inside between
+between-inside part level values e =
+    all-pass (length values) (inside part level values)
+    (λ k m.
+    let t = first-none (length values) (between (negℤ (pos (2 ^ (11 + level)))) (pos (2 ^ (11 + level))) values) e k m in
+    let l = ltZ (negℤ (pos (2 ^ (11 + level)))) (getD values k (pos 0)) in
+    let h = ltZ (getD values k (pos 0)) (pos (2 ^ (11 + level))) in
+    in-all level (getD values k (pos 0)) (and-left l h t) (and-right l h t) (isDc part k))
 
 -- the last of five levels
 pub fourth : (level : ℕ) → level ≤ 4 → (level ≡ 0 → ⊥) → (level ≡ 1 → ⊥) → (level ≡ 2 → ⊥) → (level ≡ 3 → ⊥) → level ≡ 4

@@ -1,10 +1,11 @@
 -- The range of a value at a level (01, "Ranges").
-use mathlib.Core.Bool.{Bool, true, false}
+use mathlib.Core.Bool.{Bool, true, false, _&&_}
 use mathlib.Core.List.{List}
 use Prim.Native.Nat.{ℕ, _+_, _^_, _%_}
 use lib.Dec.{eqb, ltb}
 use lib.IntN.{ℤ, pos, negsuc, natAbs}
 use lib.ListN.{length, getD}
+use lib.Signed.{ltZ}
 use Rattle.laws.specs.First.{firstFail}
 use Rattle.laws.specs.declared.Found.{Found}
 use Rattle.levels.specs.declared.Part.{Part}
@@ -36,3 +37,7 @@ inside part level values index = inLevel (isDc part index) level (getD values in
 -- "value out of range: first index"
 unfoldable pub firstOutside : Part → ℕ → List ℤ → Found
 firstOutside part level values = firstFail (length values) (inside part level values)
+
+-- the value at an index lies between two bounds; where those are the AC range's, the value is in every range
+unfoldable pub between : ℤ → ℤ → List ℤ → ℕ → Bool
+between low high values index = ltZ low (getD values index (pos 0)) && ltZ (getD values index (pos 0)) high

@@ -2,18 +2,16 @@
 use borrow.Author.Tests.{ltb-true, ltb-false, le-ltb}
 use mathlib.Core.Path.{_≡_, refl, sym, ap, subst, _∙_}
 use mathlib.Core.Bool.{Bool, true, false}
-use mathlib.Core.List.{List, [], _∷_}
-use Prim.Native.Nat.{ℕ, _+_, _*_, _/_, _^_, _≤_, _<_, zero-le}
-use native.Mathlib.Nat.{mul-le-mul-left, lt-of-mul-lt-mul-left}
+use Prim.Native.Nat.{ℕ, _+_, _*_, _/_, _%_, _^_, _≤_, _<_, zero-le}
+use native.Mathlib.Nat.{mul-le-mul-left, lt-of-mul-lt-mul-left, mod-eq-of-lt}
 use native.Mathlib.Omega.{arith}
 use lib.Dec.{T, leb, leb→le}
-use lib.ListN.{getD}
+use lib.Pow.{pow-mono}
 use lib.IntN.{ℤ, pos, negsuc, negℤ, natAbs, _+ℤ_, _-ℤ_, _*ℤ_}
 use lib.Signed.{ltZ, nonNeg, shrZ}
 use Rattle.laws.proofs.Integers.{up, dn, sum, eqZ, pos-up, pos-dn, abs, one, abs-sum, abs-neg, abs-prod-le, ≤-to, <-to, ≤-of, <-of, floor-low, floor-high, floor-abs}
 use Rattle.laws.proofs.Floors.{times, floor-is, floor-scale}
-use Rattle.laws.specs.Index.{tab}
-use Rattle.laws.proofs.Lists.{getD-tab, each}
+use Rattle.laws.proofs.Lists.{each}
 use Rattle.rounding.specs.Near.{nearest, clip, row}
 
 -- ---- nearest
@@ -119,12 +117,10 @@ module _ (u v : ℕ) (k l m a b c : ℤ) (hk : natAbs k ≤ u) (hl : natAbs l �
 
 -- ---- powers of two
 
-abbrev pub powers : List ℕ
-powers = 1 ∷ 2 ∷ 4 ∷ 8 ∷ 16 ∷ 32 ∷ 64 ∷ 128 ∷ 256 ∷ 512 ∷ 1024 ∷ 2048 ∷ 4096 ∷ 8192 ∷ 16384 ∷ 32768 ∷ 65536 ∷ []
-
-pub power-at : (k : ℕ) → k ≤ 16 → getD powers k 0 ≡ 2 ^ k
-unfolding tab
-power-at k h = getD-tab 17 (λ i. 2 ^ i) 0 k (omega arith)
+pub power-moved : (k : ℕ) → k ≤ 16 → 1 * 2 ^ k % 4294967296 ≡ 2 ^ k
+power-moved k h =
+    let e : 1 * 2 ^ k ≡ 2 ^ k = omega arith in
+    rw e (mod-eq-of-lt (omega (arith, pow-mono {i = k} {j = 16} h)))
 
 pub top-above : (r : ℕ) → r ≤ 8 → 256 ≤ 2 ^ (8 + r)
 top-above r h = leb→le 256 (2 ^ (8 + r)) (each 9 (λ k. leb 256 (2 ^ (8 + k))) tt r (omega arith))

@@ -1,13 +1,17 @@
 -- `ac_plan::ahead_of` meets its contract: what is seen from here, behind the zeros passed, is what is seen from the start. Assumes nothing.
-use mathlib.Core.Path.{_≡_, ap, _∙_}
+use mathlib.Core.Path.{_≡_, refl, ap, _∙_}
+use mathlib.Core.Bool.{true, false}
 use Prim.Native.Nat.{_-_}
-use lib.IntN.{pos}
+use native.Mathlib.Omega.{arith}
+use lib.IntN.{pos, negsuc}
 use lib.ListN.{length, getD}
 use mir.Syntax.{w32}
+use mir.Val.{ofZ}
 use Rattle.laws.proofs.Integers.{back}
 use Rattle.planes.specs.AcWrite.{kindOf}
-use Rattle.ac_plan.specs.Plan.{kindIs}
-use Rattle.ac_plan.proofs.Looking.{Looked, look-start, look-end, look-kept, look-still, look-fresh}
+use Rattle.ac_plan.specs.Plan.{stillIs}
+use Rattle.ac_plan.proofs.KindTests.{is-one, is-minus-one}
+use Rattle.ac_plan.proofs.Looking.{Looked, look-start, look-end, look-on, look-new}
 use borrow.Author.Needs.{needs}
 use Rattle.ac_plan.proofs.ahead_of.Statement.{statement}
 use Rattle.ac_plan.proofs.ahead_of.Tie as tie
@@ -21,26 +25,33 @@ abbrev μ-loop : tie.MeasureT-loop
 loop-holds : tie.Need-loop-holds Inv-loop μ-loop
 loop-holds c = look-start _ _
 
--- the kind of the value here
-seen : (c : tie.After-kind-of Inv-loop μ-loop)
-    → kindIs (c .kind-of .result) ≡ kindOf (getD (c .before .before .before .before .args .block .now) (c .before .before .before .loop .i) (pos 0))
-seen c = c .kind-of .ensures ∙ ap kindOf (back w32 _ (c .before .kind-of-arg .given))
-
 returns : tie.Need-returns Inv-loop μ-loop
+unfolding kindOf
 returns c =
-    let l = c .before .before .before .before .before .before .loop in
-    look-fresh (l .inv) (c .before .before .before .before .before .loop-test .taken) (seen (c .before .before .before)) (c .before .change .given .1)
+    let at-test = c .before .before in
+    look-new (at-test .before .loop .inv) (pos 1) true (at-test .loop-test .taken) (is-one (record { sfits = c .before .value .given }) (c .if1 .taken)) refl
+
+returns-2 : tie.Need-returns-2 Inv-loop μ-loop
+unfolding kindOf
+returns-2 c =
+    let at-test = c .before .before .before in
+    look-new (at-test .before .loop .inv) (negsuc 0) false (at-test .loop-test .taken) (is-minus-one (record { sfits = c .before .before .value .given }) (c .if2 .taken)) refl
+
+add-zeros : tie.Need-add-zeros Inv-loop μ-loop
+add-zeros c =
+    let at-test = c .before .before .before .before in
+    omega (arith, c .zero-is .ensures .1, at-test .before .loop .inv .within, at-test .loop-test .taken, at-test .before .before .good .0)
 
 loop-again : tie.Need-loop-again Inv-loop μ-loop
 loop-again c =
-    look-kept (c .before .before .before .before .before .loop .inv) (c .before .before .before .before .loop-test .taken) (seen (c .before .before)) (c .enum-told .given .1)
+    let at-value = c .before .before .before in
+    let at-test = at-value .before in
+    let v = getD (at-test .before .before .args .block .now) (at-test .before .loop .i) (pos 0) in
+    rw (c .zero-is .ensures .0 ∙ ap (λ x. stillIs (kindOf x)) (back w32 v (at-value .value .given)))
+    (look-on (at-test .before .loop .inv) v (at-test .loop-test .taken) refl (λ e. c .before .before .if1 .left (ap (ofZ w32) e)) (λ e. c .before .if2 .left (ap (ofZ w32) e)))
 
-loop-again-2 : tie.Need-loop-again-2 Inv-loop μ-loop
-loop-again-2 c =
-    look-still (c .before .before .before .before .before .loop .inv) (c .before .before .before .before .loop-test .taken) (seen (c .before .before)) (c .enum-told2 .given .1)
-
-returns-2 : tie.Need-returns-2 Inv-loop μ-loop
-returns-2 c = look-end (c .before .loop .inv) (c .loop-test .left)
+returns-3 : tie.Need-returns-3 Inv-loop μ-loop
+returns-3 c = look-end (c .before .loop .inv) (c .loop-test .left)
 
 pub ahead-of-spec : {M : Type 1} → statement M
 ahead-of-spec =
@@ -51,16 +62,11 @@ ahead-of-spec =
     loop-holds
     (λ c. search needs)
     (λ c. search needs)
-    (λ c κs. search needs)
-    (λ c. search needs)
     returns
-    (λ c. search needs)
+    returns-2
+    (λ c κs. search needs)
+    add-zeros
     (λ c. search needs)
     (λ c. search needs)
     loop-again
-    (λ c. search needs)
-    (λ c. search needs)
-    (λ c. search needs)
-    (λ c. search needs)
-    loop-again-2
-    returns-2)
+    returns-3)

@@ -4,7 +4,8 @@ use Prim.Native.Nat.{_-_}
 use lib.ListN.{length}
 use Rattle.codes.specs.Table.{table}
 use Rattle.ac_plan.specs.Plan.{kindBlocks}
-use Rattle.ac_writer.proofs.Positions.{Walking, walk-start, walk-ready, walk-turn, walk-end}
+use Rattle.ac_writer.proofs.Positions.{begins-near, Walking, walk-start, walk-ready, walk-turn, walk-end}
+use native.Mathlib.Omega.{arith}
 use borrow.Author.Needs.{needs}
 use Rattle.ac_writer.proofs.put_block.Statement.{statement}
 use Rattle.ac_writer.proofs.put_block.Tie as tie
@@ -19,17 +20,31 @@ abbrev μ-loop : tie.MeasureT-loop
 loop-holds : tie.Need-loop-holds Inv-loop μ-loop
 loop-holds c = (refl, walk-start _ _ (c .before .before .before .pre .0 .0))
 
-step-requires : tie.Need-step-requires Inv-loop μ-loop
-step-requires c κs =
-    let a = c .before .before .before .before .before .before .pre in
-    (walk-ready _ _ (c .before .before .loop .inv .1) (a .1 .0 .0) (a .1 .0 .1) (a .0 .1), ((a .1 .0 .0, c .before .loop-test .taken), a .1 .1))
+begin-requires : tie.Need-begin-requires Inv-loop μ-loop
+begin-requires c κs =
+    let at-loop = c .before .before in
+    let a = at-loop .before .before .before .before .pre in
+    (walk-ready _ _ (at-loop .loop .inv .1) (a .1 .0 .0) (a .1 .0 .1) (a .0 .1), (a .1 .0 .0, a .1 .1))
+
+do-job-requires : tie.Need-do-job-requires Inv-loop μ-loop
+do-job-requires c κs =
+    let at-begin = c .before .before .before .before in
+    let at-test = at-begin .before .before in
+    let a = at-test .before .before .before .before .before .pre in
+    (begins-near _ _ (at-begin .begin .ensures) (a .1 .0 .0) (walk-ready _ _ (at-test .before .loop .inv .1) (a .1 .0 .0) (a .1 .0 .1) (a .0 .1)), (at-test .loop-test .taken, a .1 .0 .1))
+
+loop-less : tie.Need-loop-less Inv-loop μ-loop
+loop-less c =
+    let at-job = c .before .before .before in
+    omega (arith, at-job .do-job .ensures .on, at-job .before .before .before .before .before .before .before .loop-test .taken)
 
 loop-again : tie.Need-loop-again Inv-loop μ-loop
 loop-again c =
-    let at-step = c .before .before in
-    let at-loop-test = at-step .before .before in
-    let at-loop = at-loop-test .before in
-    (at-step .step .kept .0 ∙ at-loop .loop .inv .0, walk-turn _ _ (at-loop .loop .inv .1) (at-loop-test .loop-test .taken) (at-step .step .ensures))
+    let at-job = c .before .before .before in
+    let at-begin = at-job .before .before .before .before .before in
+    let at-test = at-begin .before .before in
+    let v = at-test .before .loop .inv in
+    (at-job .do-job .kept .0 ∙ at-begin .begin .kept .0 ∙ v .0, walk-turn _ _ (v .1) (at-test .loop-test .taken) (at-begin .begin .ensures) (at-job .do-job .ensures))
 
 same-length : tie.Need-same-length Inv-loop μ-loop
 same-length c = c .before .before .before .loop .inv .0
@@ -44,9 +59,9 @@ put-block-spec =
     Inv-loop
     μ-loop
     loop-holds
-    step-requires
-    (λ c. search needs)
-    (λ c. search needs)
+    begin-requires
+    do-job-requires
+    loop-less
     loop-again
     (λ c κs. search needs)
     same-length
