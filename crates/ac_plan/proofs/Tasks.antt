@@ -1,22 +1,18 @@
--- What is left of a task that is not at its end; the task that is planned. Assumes nothing.
+-- What is left of an end run behind a block; the task that is planned. Assumes nothing.
 use mathlib.Core.Path.{_≡_, refl}
 use mathlib.Core.Bool.{Bool}
-use mathlib.Core.Option.{Option, some}
+use mathlib.Core.Option.{some}
 use mathlib.Core.List.{List}
 use Prim.Native.Nat.{ℕ, zero, suc, _-_, _≤_, _<_}
 use native.Mathlib.Numerals.{sub-one}
 use native.Mathlib.Omega.{arith}
 use borrow.Author.Tests.{lt-ltb, le-ltb}
-use Rattle.planes.specs.Task.{walk, ended, pass, over}
+use Rattle.planes.specs.Task.{ended, over}
 use Rattle.planes.specs.AcWrite.{Kind, ahead, quiet, plan}
 use Rattle.ac_tasks.specs.declared.Job.the-variants.{Leave, Set, Ended}
 use Rattle.ac_plan.specs.Plan.{comingIs, Planned}
 use Rattle.ac_plan.specs.declared.Coming.{Coming}
 use Rattle.ac_plan.specs.declared.Coming.the-variants.{Value, Quiet}
-
-pub pass-on : (n : ℕ) (sign : Option Bool) → (n ≡ 0 → ⊥) → some (walk (n - 1) sign) ≡ pass (walk n sign)
-pass-on zero sign h = absurd (h refl)
-pass-on (suc n) sign h = rw sub-one
 
 pub over-on : (n : ℕ) → (n ≡ 0 → ⊥) → some (ended (n - 1)) ≡ over (some (ended n))
 over-on zero h = absurd (h refl)

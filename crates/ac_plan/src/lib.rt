@@ -4,7 +4,7 @@ ghost use Prim.Native.Nat.{_*_, _≤_};
 ghost use lib.ListN.{length};
 ghost use Rattle.planes.specs.Task as defined;
 ghost use Rattle.planes.specs.AcWrite as written;
-ghost use Rattle.ac_tasks.specs.Code.{taskOf, openOf};
+ghost use Rattle.ac_tasks.specs.Code.{openOf};
 ghost use Rattle.ac_plan.specs.Plan.{kindsFrom, kindBlocks, kindIs, stillIs, comingIs, Planned};
 use ac_tasks::Job;
 use ac_tasks::Open;
@@ -101,39 +101,7 @@ pub fn plan(block: &[i32], i: usize, later: &[i32], blocks: usize) -> Job
     }
 }
 
-// What is left of a task behind a zero.
-fn pass(job: Job) -> Open
-    ensures { λ r. ⌜ openOf r ≡ defined.pass (taskOf job) ⌝ }
-{
-    match job {
-        Job::Leave(n) => {
-            if n == 0 {
-                return Open::Nothing;
-            }
-            Open::Doing(Job::Leave(n - 1))
-        }
-        Job::Set(n, positive) => {
-            if n == 0 {
-                return Open::Nothing;
-            }
-            Open::Doing(Job::Set(n - 1, positive))
-        }
-        Job::Ended(n) => Open::Doing(Job::Ended(n)),
-    }
-}
-
-// What is left of it behind a value.
-pub fn after(job: Job, change: Change) -> Open
-    ensures { λ r. ⌜ openOf r ≡ written.after (taskOf job) (kindIs change) ⌝ }
-{
-    match change {
-        Change::Kept(_) => Open::Doing(job),
-        Change::Still => pass(job),
-        Change::Fresh(_) => pass(job),
-    }
-}
-
-// What is left of it behind a block.
+// What is left of a task behind a block.
 fn over_job(job: Job) -> Open
     ensures { λ r. ⌜ openOf r ≡ defined.over (openOf (Open.Doing job)) ⌝ }
 {

@@ -6,7 +6,7 @@ use mathlib.Core.Bool.{Bool, true, false}
 use Prim.Native.Nat.{ℕ, zero, suc, _+_, _-_, _≤_, _<_}
 use native.Mathlib.Numerals.{add-one}
 use native.Mathlib.Omega.{arith}
-use lib.IntN.{ℤ, pos}
+use lib.IntN.{ℤ, pos, negsuc}
 use lib.ListN.{length, getD, take, drop, set, length-set, drop-of-length-le}
 use lib.Seq.{drop-cons, take-suc-set, append-snoc, take-all}
 use Rattle.bits.specs.Source.{Source, Out, got, stopped, stop, takeBit}
@@ -18,10 +18,16 @@ use Rattle.codes.specs.Table.{Table}
 use Rattle.planes.specs.Task.{Task, walk, ended, atZero, pass}
 use Rattle.planes.specs.AcRead.{taskAt, position, corrected, blockEnd, acBlock}
 use Rattle.ac_tasks.specs.Code.{openOf, blockOf}
-use Rattle.ac_tasks.proofs.Tasks.{corrects}
 use Rattle.ac_reader.specs.Walk.{fixing, aim, aimed, inFront, At, Carries, Closes}
 use Rattle.ac_tasks.specs.declared.Block.{Block}
 use Rattle.ac_tasks.specs.declared.Block.the-variants.{Done, Halted}
+
+-- a value that is not zero takes one correction bit
+corrects : (t : Task) (value : ℤ) (s : Source) → (value ≡ pos 0 → ⊥) → position t value s ≡ andThen (λ (b : Bool). done (corrected value b, some t)) (takeBit s)
+unfolding position
+corrects t (pos zero) s z = absurd (z refl)
+corrects t (pos (suc n)) s z = refl
+corrects t (negsuc n) s z = refl
 
 front-none : (o : Out (List ℤ × Option Task)) → inFront [] o ≡ o
 unfolding inFront

@@ -1,25 +1,22 @@
 -- What the code's answers on tasks are worth, case by case, in the terms that its tests leave. Assumes nothing.
-use mathlib.Core.Path.{_≡_, refl, sym, ap, ap₂, _∙_}
+use mathlib.Core.Path.{_≡_, refl, sym, ap, _∙_}
 use mathlib.Core.Bool.{Bool, true, false}
 use mathlib.Core.Option.{Option, some}
-use Prim.Native.Nat.{ℕ, zero, suc, _+_, _-_, _*_, _%_, _^_, _≤_, _<_}
+use Prim.Native.Nat.{ℕ, suc, _+_, _-_, _*_, _%_, _^_, _≤_, _<_}
 use native.Mathlib.Omega.{arith}
 use lib.Bits.{bitAnd, and-mask}
 use lib.Dec.{leb}
-use lib.IntN.{ℤ, pos, negsuc}
 use borrow.Author.Tests.{le-leb, lt-leb}
-use Rattle.bits.specs.Source.{Source, got, stopped, stop, takeBit}
-use Rattle.bits.specs.Reader.{andThen, done}
+use Rattle.bits.specs.Source.{Source, stopped, stop}
 use Rattle.bits.specs.Code.{sourceOf}
 use Rattle.bits.specs.declared.Cursor.{Cursor}
-use Rattle.planes.specs.Task.{Task, walk, ended, atZero, pass}
-use Rattle.planes.specs.AcRead.{meaning, corrected, position, blockEnd}
-use Rattle.ac_tasks.specs.Code.{taskOf, openOf, placedOf, blockOf, Passes, BlockEnds}
+use Rattle.planes.specs.Task.{walk, ended}
+use Rattle.planes.specs.AcRead.{meaning, blockEnd}
+use Rattle.ac_tasks.specs.Code.{taskOf, blockOf, BlockEnds}
 use Rattle.ac_tasks.specs.declared.Job.{Job}
 use Rattle.ac_tasks.specs.declared.Job.the-variants.{Ended}
 use Rattle.ac_tasks.specs.declared.Open.{Open}
 use Rattle.ac_tasks.specs.declared.Open.the-variants.{Nothing, Doing}
-use Rattle.ac_tasks.specs.declared.Placed.the-variants.{To}
 use Rattle.ac_tasks.specs.declared.Block.the-variants.{Done, Halted}
 use Rattle.ac_tasks.proofs.Numbers.{moved-one}
 
@@ -45,37 +42,6 @@ module _ {task : Open} {c : Cursor} where
     pub ends-run : {n : ℕ} → job ≡ Ended n → (n ≡ 0 → ⊥) → BlockEnds task c (Done (Doing (Ended (n - 1))) c)
     unfolding blockEnd blockOf
     ends-run {n} q z = rw (e, q) (record { same = λ bytes. sym (ap (λ (k : ℕ). blockEnd (some (ended k)) (sourceOf bytes c)) (one-less n z)) })
-
--- ---- at a zero
-
-module _ {job : Job} {c : Cursor} where
-  passes : {value : ℤ} {task : Open} → atZero (taskOf job) ≡ value → pass (taskOf job) ≡ openOf task → Passes job c (To value task c)
-  unfolding placedOf
-  passes e q = record { same = λ bytes. sym (ap₂ (λ (v : ℤ) (o : Option Task). got (v, o) (sourceOf bytes c)) e q) }
-
-  module _ {n : ℕ} {sign : Option Bool} (e : taskOf job ≡ walk n sign) where
-    -- the zero that the walk was for
-    pub passes-last : {value : ℤ} → n ≡ 0 → atZero (walk 0 sign) ≡ value → Passes job c (To value Nothing c)
-    passes-last z q =
-        let w : taskOf job ≡ walk 0 sign = rw z at e in
-        passes (ap atZero w ∙ q) (ap pass w)
-
-    pub passes-on : {left : Job} → (n ≡ 0 → ⊥) → taskOf left ≡ walk (n - 1) sign → Passes job c (To (pos 0) (Doing left) c)
-    passes-on z q =
-        let w : taskOf job ≡ walk (suc (n - 1)) sign = e ∙ ap (λ (k : ℕ). walk k sign) (one-less n z) in
-        passes (ap atZero w) (ap pass w ∙ ap some (sym q))
-
-  pub passes-ended : {n : ℕ} → job ≡ Ended n → Passes job c (To (pos 0) (Doing (Ended n)) c)
-  passes-ended e = passes (ap (λ (j : Job). atZero (taskOf j)) e) (ap (λ (j : Job). pass (taskOf j)) e)
-
--- ---- at a position
-
--- a value that is not zero takes one correction bit
-pub corrects : (t : Task) (value : ℤ) (s : Source) → (value ≡ pos 0 → ⊥) → position t value s ≡ andThen (λ (b : Bool). done (corrected value b, some t)) (takeBit s)
-unfolding position
-corrects t (pos zero) s z = absurd (z refl)
-corrects t (pos (suc n)) s z = refl
-corrects t (negsuc n) s z = refl
 
 -- ---- an end run, in the code's terms
 

@@ -7,7 +7,7 @@ use lib.IntN.{ℤ}
 use Rattle.bits.specs.Source.{Out, got, stopped}
 use Rattle.bits.specs.Code.{sourceOf}
 use Rattle.bits.specs.declared.Cursor.{Cursor}
-use Rattle.planes.specs.Task.{Task, walk, ended, atZero, pass}
+use Rattle.planes.specs.Task.{Task, walk, ended}
 use Rattle.planes.specs.AcRead.{takeNumber, blockEnd}
 use Rattle.ac_tasks.specs.declared.Job.{Job}
 use Rattle.ac_tasks.specs.declared.Job.the-variants.{Leave, Set, Ended}
@@ -17,8 +17,6 @@ use Rattle.ac_tasks.specs.declared.Number.{Number}
 use Rattle.ac_tasks.specs.declared.Number.the-variants.{Is, Cut}
 use Rattle.ac_tasks.specs.declared.Told.{Told}
 use Rattle.ac_tasks.specs.declared.Told.the-variants.{Task as Telling, Untold}
-use Rattle.ac_tasks.specs.declared.Placed.{Placed}
-use Rattle.ac_tasks.specs.declared.Placed.the-variants.{To, Stuck}
 use Rattle.ac_tasks.specs.declared.Block.{Block}
 use Rattle.ac_tasks.specs.declared.Block.the-variants.{Done, Halted}
 
@@ -39,10 +37,6 @@ unfoldable pub toldOf : List ℕ → Told → Out Task
 toldOf bytes (Telling job c) = got (taskOf job) (sourceOf bytes c)
 toldOf bytes (Untold x) = stopped x
 
-unfoldable pub placedOf : List ℕ → Placed → Out (ℤ × Option Task)
-placedOf bytes (To value task c) = got (value, openOf task) (sourceOf bytes c)
-placedOf bytes (Stuck x) = stopped x
-
 -- these are the new values of a block that was read
 unfoldable pub blockOf : List ℕ → List ℤ → Block → Out (List ℤ × Option Task)
 blockOf bytes values (Done task c) = got (values, openOf task) (sourceOf bytes c)
@@ -53,10 +47,6 @@ pub record Counts (bytes : List ℕ) (n : ℕ) (c : Cursor) (r : Number) : Type 
   pub same : numberOf bytes r ≡ takeNumber n 0 (sourceOf bytes c)
   pub small : (v : ℕ) (d : Cursor) → r ≡ Is v d → v < 2 ^ n
 
--- at a zero no bit is taken, whatever the data
-pub record Passes (job : Job) (c : Cursor) (r : Placed) : Type 0 where
-  pub same : (bytes : List ℕ) → placedOf bytes r ≡ got (atZero (taskOf job), pass (taskOf job)) (sourceOf bytes c)
-
--- nor at the end of a block
+-- at the end of a block no bit is taken, whatever the data
 pub record BlockEnds (task : Open) (c : Cursor) (r : Block) : Type 0 where
   pub same : (bytes : List ℕ) → blockOf bytes [] r ≡ blockEnd (openOf task) (sourceOf bytes c)
