@@ -1,4 +1,5 @@
 pub mod Rows
+pub mod Blocks
 pub mod Stops
 pub mod Walked
 pub mod One
@@ -7,3 +8,4 @@ pub mod Values
 pub mod Held
 pub mod Three
 pub mod Cases
+pub mod Shams

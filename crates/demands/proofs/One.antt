@@ -1,11 +1,12 @@
 -- Demand 1 holds. Assumes nothing.
-use mathlib.Core.Path.{_≡_, refl}
-use mathlib.Core.Logic.{inl, inr, ⊎-elim}
-use mathlib.Core.List.{List, [], _∷_}
+use mathlib.Core.Path.{_≡_, refl, sym, ap, _∙_}
+use mathlib.Core.Logic.{⊎-elim}
+use mathlib.Core.Bool.{true}
+use mathlib.Core.List.{List, [], _∷_, _++_}
 use mathlib.Core.Option.{none}
-use Prim.Native.Nat.{ℕ, _-_, _*_, _≤_}
+use Prim.Native.Nat.{ℕ, _-_, _*_, _≤_, _<_}
 use native.Mathlib.Omega.{arith}
-use borrow.Author.Tests.{eqb-true, leb-true, leb-false}
+use borrow.Author.Tests.{eqb-true, leb-true, leb-false, lt-leb}
 use lib.Dec.{T, eqb, leb}
 use lib.IntN.{ℤ, pos}
 use lib.ListN.{length, getD}
@@ -14,6 +15,8 @@ use Rattle.laws.specs.Index.{every}
 use Rattle.laws.specs.First.{firstFail}
 use Rattle.laws.specs.declared.Found.{Found}
 use Rattle.laws.specs.declared.Found.the-variants.{At, Nothing}
+use Rattle.laws.proofs.Choices.{at-one, at-nothing}
+use Rattle.answers.specs.Verdict.{Verdict, need, unless}
 use Rattle.levels.specs.Level.{inside, firstOutside}
 use Rattle.levels.specs.declared.Part.{Part}
 use Rattle.levels.specs.declared.Part.the-variants.{Dc, Ac, Whole}
@@ -29,153 +32,246 @@ use Rattle.transform.specs.Call.{isQuantiser, firstBadQuantiser, inverseTransfo
 use Rattle.transform.proofs.Lengths.{picture-length}
 use Rattle.rounding.specs.Near.{top}
 use Rattle.pixel.specs.declared.Setting.{Setting}
-use Rattle.settings.specs.Tests.{inRanges, plain, srgbAllowed, lengthsRight, entryRight}
+use Rattle.settings.specs.Tests.{inRanges, plain, srgbAllowed, samples, lengthsRight, entryRight}
 use Rattle.merge.specs.Picture as merging
 use Rattle.merge.specs.Picture.{merge}
 use Rattle.merge.proofs.Order.{picture-long}
-use Rattle.demands.specs.One.{stands, First, packetRows, boxRows, listRows, dcReadRows, acReadRows, dcWriteRows, acWriteRows, transformRows, mergeRows, DemandOne}
-use Rattle.demands.proofs.Rows.{Keeps, need-keeps, unless-keeps, fitting-keeps, first-index, NoZero, answered}
-use Rattle.demands.proofs.Stops.{dc-blocks, ac-blocks, closed-keeps, sizes, cut-sizes, cut-length}
-use Rattle.demands.proofs.Walked.{box-keeps}
+use Rattle.demands.specs.One.{Rows, row, rows, stands, _then_, needed, First, FirstLacking, boxRows, packetRows, listRows, dcReadRows, acReadRows, dcWriteRows, acWriteRows, transformRows, mergeRows, DemandOne}
+use Rattle.demands.specs.Blocks.{oneDc, oneAc}
+use Rattle.demands.proofs.Rows.{Judged, need-judged, failing-judged, unless-judged, fitting-judged, first-index, index-first, NoZero, answered}
+use Rattle.demands.proofs.Blocks.{dc-stops, stops-dc, dc-left, left-dc, ac-stops, stops-ac, ac-left, left-ac}
+use Rattle.demands.proofs.Stops.{dc-blocks, ac-blocks, closed-judged, sizes, cut-sizes, cut-length}
+use Rattle.demands.proofs.Walked.{box-judged}
 
--- "value out of range: first index"
+-- "value out of range: first index", both ways
 outside-first : (part : Part) (level : ℕ) (values : List ℤ) (i : ℕ) → firstOutside part level values ≡ At i → First (length values) (inside part level values) i
 unfolding firstOutside
 outside-first part level values i e = first-index (length values) (inside part level values) i e
 
+first-outside : (part : Part) (level : ℕ) (values : List ℤ) (i : ℕ) → First (length values) (inside part level values) i → firstOutside part level values ≡ At i
+unfolding firstOutside
+first-outside part level values i h = index-first (length values) (inside part level values) i h
+
+-- 11
+module _ {A : Type 0} {later : Rows} {room : ℕ} where
+  outside-judged : (part : Part) (level : ℕ) (values : List ℤ) (next : Verdict A) → (firstOutside part level values ≡ Nothing → Judged later room next)
+      → Judged (row 11 (First (length values) (inside part level values)) then later) room (unless 11 (firstOutside part level values) next)
+  outside-judged part level values next =
+      unless-judged (First (length values) (inside part level values)) 11 (firstOutside part level values) next (outside-first part level values) (first-outside part level values)
+
+  -- 9 where the length needed is known before anything is read
+  room-judged : (n : ℕ) (next : Verdict A) → (leb n room ≡ true → Judged later room next) → Judged (row 9 (needed n room) then later) room (need (leb n room) 9 n next)
+  room-judged n next = need-judged (needed n room) (leb n room) 9 n next (λ e. (refl, leb-false n room e)) (λ q h. (let e = h .0 in let l = h .1 in lt-leb n room (omega arith), h .0))
+
 -- ---- reading planes
 
-abbrev DcStop : ℕ → Type 0
-DcStop n = T (stands n (12 ∷ 13 ∷ []))
+dcStops : List ℕ
+dcStops = 12 ∷ 13 ∷ []
 
-abbrev AcStop : ℕ → Type 0
-AcStop n = T (stands n (12 ∷ 13 ∷ 14 ∷ 15 ∷ 16 ∷ 17 ∷ []))
+acStops : List ℕ
+acStops = 12 ∷ 13 ∷ 14 ∷ 15 ∷ 16 ∷ 17 ∷ []
 
-pub dc-read-keeps : (plane blocks : ℕ) (values : List ℤ) (bytes : List ℕ) (room : ℕ) → Keeps (dcReadRows plane blocks values bytes room) room (readDc plane blocks values bytes room)
-unfolding readDc dcReadRows
-dc-read-keeps plane blocks values bytes room =
-    need-keeps (every (readable plane blocks)) 20 0 _ (λ e. inl (tt, refl)) λ e.
-    need-keeps (eqb (length values) blocks) 21 0 _ (λ f. inl (tt, refl)) λ f.
-    unless-keeps 11 (firstOutside Dc (plane - 1) values) _ (λ i g. inr (inl (tt, outside-first Dc (plane - 1) values i g))) λ o.
-    need-keeps (leb blocks room) 9 blocks _ (λ g. inr (inr (inl (tt, (refl, leb-false blocks room g))))) λ g.
+pub dc-read-judged : (plane blocks : ℕ) (values : List ℤ) (bytes : List ℕ) (room : ℕ) → Judged (dcReadRows plane blocks values bytes room) room (readDc plane blocks values bytes room)
+unfolding readDc dcReadRows dcStops
+dc-read-judged plane blocks values bytes room =
+    failing-judged (every (readable plane blocks)) 20 _ λ e.
+    failing-judged (eqb (length values) blocks) 21 _ λ f.
+    outside-judged Dc (plane - 1) values _ λ o.
+    room-judged blocks _ λ g.
     let n : length values ≡ blocks = eqb-true (length values) blocks f in
     let l : blocks ≤ room = leb-true blocks room g in
-    closed-keeps DcStop (length bytes) blocks (length values) (dcBlocks 0 values (start bytes)) (omega arith) (λ number place h k. inr (inr (inr (inl (h, k))))) (λ place h. inr (inr (inr (inr (tt, h)))))
-    (dc-blocks DcStop (length bytes) tt tt blocks 0 values (start bytes) (omega arith) (omega arith))
+    closed-judged oneDc tt values (start bytes) room dcStops (length bytes) blocks (length values) (dcBlocks 0 values (start bytes)) (omega arith)
+    (dc-blocks (λ (m : ℕ). T (stands m dcStops)) (length bytes) tt tt blocks 0 values (start bytes) (omega arith) (omega arith))
+    (dc-stops values (start bytes)) (stops-dc values (start bytes)) (dc-left values (start bytes)) (left-dc values (start bytes))
 
-pub ac-read-keeps : (plane blocks : ℕ) (codes : Table) (values : List ℤ) (bytes : List ℕ) (room : ℕ) → Keeps (acReadRows plane blocks values bytes room) room (readAc plane blocks codes values bytes room)
-unfolding readAc acReadRows
-ac-read-keeps plane blocks codes values bytes room =
-    need-keeps (every (readable plane blocks)) 20 0 _ (λ e. inl (tt, refl)) λ e.
-    need-keeps (eqb (length values) (63 * blocks)) 21 0 _ (λ f. inl (tt, refl)) λ f.
-    need-keeps (goodTable codes) 10 0 _ (λ t. inl (tt, refl)) λ t.
-    unless-keeps 11 (firstOutside Ac (plane - 1) values) _ (λ i g. inr (inl (tt, outside-first Ac (plane - 1) values i g))) λ o.
-    need-keeps (leb (63 * blocks) room) 9 (63 * blocks) _ (λ g. inr (inr (inl (tt, (refl, leb-false (63 * blocks) room g))))) λ g.
+pub ac-read-judged : (plane blocks : ℕ) (codes : Table) (values : List ℤ) (bytes : List ℕ) (room : ℕ) → Judged (acReadRows plane blocks codes values bytes room) room (readAc plane blocks codes values bytes room)
+unfolding readAc acReadRows acStops
+ac-read-judged plane blocks codes values bytes room =
+    failing-judged (every (readable plane blocks)) 20 _ λ e.
+    failing-judged (eqb (length values) (63 * blocks)) 21 _ λ f.
+    failing-judged (goodTable codes) 10 _ λ t.
+    outside-judged Ac (plane - 1) values _ λ o.
+    room-judged (63 * blocks) _ λ g.
+    let bs : List (List ℤ) = cut blocks values in
     let n : sizes (cut blocks values) ≡ 63 * blocks = cut-sizes blocks values (eqb-true (length values) (63 * blocks) f) in
     let m : length (cut blocks values) ≡ blocks = cut-length blocks values in
     let l : 63 * blocks ≤ room = leb-true (63 * blocks) room g in
-    closed-keeps AcStop (length bytes) blocks (sizes (cut blocks values)) (acBlocks codes 0 none (cut blocks values) (start bytes)) (omega arith) (λ number place h k. inr (inr (inr (inl (h, k))))) (λ place h. inr (inr (inr (inr (tt, h)))))
-    (ac-blocks AcStop (length bytes) tt tt tt tt tt tt codes blocks 0 none (cut blocks values) (start bytes) (omega arith) (omega arith))
+    closed-judged (oneAc codes) none bs (start bytes) room acStops (length bytes) blocks (sizes (cut blocks values)) (acBlocks codes 0 none (cut blocks values) (start bytes)) (omega arith)
+    (ac-blocks (λ (m : ℕ). T (stands m acStops)) (length bytes) tt tt tt tt tt tt codes blocks 0 none (cut blocks values) (start bytes) (omega arith) (omega arith))
+    (ac-stops codes bs (start bytes)) (stops-ac codes bs (start bytes)) (ac-left codes bs (start bytes)) (left-ac codes bs (start bytes))
 
 -- ---- the listing
 
-pub list-keeps : (file : List ℕ) (room : ℕ) → Keeps (listRows file room) room (listPackets file room)
+pub list-judged : (file : List ℕ) (room : ℕ) → Judged (listRows file room) room (listPackets file room)
 unfolding listPackets listRows
-list-keeps file room = fitting-keeps (listing file) (λ h. (tt, (refl, h)))
+list-judged file room = fitting-judged room (length (listing file)) (listing file) refl
 
 -- ---- writing planes
 
-pub dc-write-keeps : (plane blocks : ℕ) (values : List ℤ) (room : ℕ) → Keeps (dcWriteRows plane values room) room (writeDc plane blocks values room)
+pub dc-write-judged : (plane blocks : ℕ) (values : List ℤ) (room : ℕ) → Judged (dcWriteRows plane blocks values room) room (writeDc plane blocks values room)
 unfolding writeDc dcWriteRows
-dc-write-keeps plane blocks values room =
-    need-keeps (every (writable plane blocks)) 20 0 _ (λ e. inl (tt, refl)) λ e.
-    need-keeps (eqb (length values) blocks) 21 0 _ (λ f. inl (tt, refl)) λ f.
-    unless-keeps 11 (firstOutside Dc plane values) _ (λ i g. inr (inl (tt, outside-first Dc plane values i g))) λ o.
-    fitting-keeps (dcBytes values) (λ h. inr (inr (tt, (refl, h))))
+dc-write-judged plane blocks values room =
+    failing-judged (every (writable plane blocks)) 20 _ λ e.
+    failing-judged (eqb (length values) blocks) 21 _ λ f.
+    outside-judged Dc plane values _ λ o.
+    fitting-judged room (length (dcBytes values)) (dcBytes values) refl
 
-lacked-here : (codes : Table) (w v : ℕ) (rest f : Found) → placeOf w (codes .values) ≡ f → (rest ≡ At v → placeOf v (codes .values) ≡ Nothing) → orElse w f rest ≡ At v → placeOf v (codes .values) ≡ Nothing
-lacked-here codes w v rest Nothing q later h = let same : w ≡ v = cc in rw (← same) q
-lacked-here codes w v rest (At k) q later h = later h
+-- 19, both ways
 
-lacked : (codes : Table) (ts : List Token) (v : ℕ) → lacking codes ts ≡ At v → placeOf v (codes .values) ≡ Nothing
+lacking-none : (codes : Table) → lacking codes [] ≡ Nothing
 unfolding lacking
-lacked codes [] v e = let z : _≡_ {A = ℕ} 0 1 = cc in let y : ⊥ = omega arith in absurd y
-lacked codes (raw b ∷ ts) v e = lacked codes ts v e
-lacked codes (code w ∷ ts) v e = lacked-here codes w v (lacking codes ts) (placeOf w (codes .values)) refl (lacked codes ts v) e
+lacking-none codes = refl
 
-pub ac-write-keeps : (plane blocks : ℕ) (codes : Table) (values : List ℤ) (room : ℕ) → Keeps (acWriteRows plane blocks codes values room) room (writeAc plane blocks codes values room)
+code-held : (codes : Table) (w k : ℕ) → placeOf w (codes .values) ≡ At k → lacking codes (code w ∷ []) ≡ Nothing
+unfolding lacking
+code-held codes w k q = rw q
+
+held-then : (w : ℕ) (f rest : Found) → orElse w f Nothing ≡ Nothing → orElse w f rest ≡ rest
+held-then w Nothing rest e = absurd (at-nothing e)
+held-then w (At k) rest e = refl
+
+-- what is held does not matter
+lacking-on : (codes : Table) (t : Token) (ts : List Token) → lacking codes (t ∷ []) ≡ Nothing → lacking codes (t ∷ ts) ≡ lacking codes ts
+unfolding lacking
+lacking-on codes (raw b) ts e = refl
+lacking-on codes (code w) ts e = held-then w (placeOf w (codes .values)) (lacking codes ts) e
+
+first-held : (w : ℕ) (f rest : Found) → orElse w f rest ≡ Nothing → (orElse w f Nothing ≡ Nothing) × (rest ≡ Nothing)
+first-held w Nothing rest e = absurd (at-nothing e)
+first-held w (At k) rest e = (refl, e)
+
+held-apart : (codes : Table) (t : Token) (ts : List Token) → lacking codes (t ∷ ts) ≡ Nothing → (lacking codes (t ∷ []) ≡ Nothing) × (lacking codes ts ≡ Nothing)
+unfolding lacking
+held-apart codes (raw b) ts e = (refl, e)
+held-apart codes (code w) ts e = first-held w (placeOf w (codes .values)) (lacking codes ts) e
+
+lacks-here : (codes : Table) (v : ℕ) (later : List Token) → placeOf v (codes .values) ≡ Nothing → lacking codes (code v ∷ later) ≡ At v
+unfolding lacking
+lacks-here codes v later n = rw n
+
+lacking-behind : (codes : Table) (earlier : List Token) (v : ℕ) (later : List Token) → lacking codes earlier ≡ Nothing → placeOf v (codes .values) ≡ Nothing → lacking codes (earlier ++ (code v ∷ later)) ≡ At v
+lacking-behind codes [] v later h n = lacks-here codes v later n
+lacking-behind codes (t ∷ earlier) v later h n =
+    let k = held-apart codes t earlier h in
+    lacking-on codes t (earlier ++ (code v ∷ later)) (k .0) ∙ lacking-behind codes earlier v later (k .1) n
+
+more-lacking : (codes : Table) (t : Token) {ts : List Token} {v : ℕ} → lacking codes (t ∷ []) ≡ Nothing → FirstLacking codes ts v → FirstLacking codes (t ∷ ts) v
+more-lacking codes t e h = record {
+  earlier = t ∷ h .earlier;
+  later = h .later;
+  written = ap (λ (l : List Token). t ∷ l) (h .written);
+  lacks = h .lacks;
+  held = lacking-on codes t (h .earlier) e ∙ h .held;
+}
+
+lacked-here : (codes : Table) (w v : ℕ) (ts : List Token) (f : Found) → placeOf w (codes .values) ≡ f → (lacking codes ts ≡ At v → FirstLacking codes ts v) → orElse w f (lacking codes ts) ≡ At v → FirstLacking codes (code w ∷ ts) v
+lacked-here codes w v ts Nothing q later h =
+    let same : w ≡ v = at-one h in
+    record { earlier = []; later = ts; written = ap (λ (u : ℕ). code u ∷ ts) same; lacks = rw (← same) q; held = lacking-none codes }
+lacked-here codes w v ts (At k) q later h = more-lacking codes (code w) (code-held codes w k q) (later h)
+
+lacked : (codes : Table) (ts : List Token) (v : ℕ) → lacking codes ts ≡ At v → FirstLacking codes ts v
+unfolding lacking
+lacked codes [] v e = absurd (at-nothing (sym e))
+lacked codes (raw b ∷ ts) v e = more-lacking codes (raw b) refl (lacked codes ts v e)
+lacked codes (code w ∷ ts) v e = lacked-here codes w v ts (placeOf w (codes .values)) refl (lacked codes ts v) e
+
+lacking-first : (codes : Table) (ts : List Token) (v : ℕ) → FirstLacking codes ts v → lacking codes ts ≡ At v
+lacking-first codes ts v h = rw (h .written) (lacking-behind codes (h .earlier) v (h .later) (h .held) (h .lacks))
+
+pub ac-write-judged : (plane blocks : ℕ) (codes : Table) (values : List ℤ) (room : ℕ) → Judged (acWriteRows plane blocks codes values room) room (writeAc plane blocks codes values room)
 unfolding writeAc acWriteRows
-ac-write-keeps plane blocks codes values room =
-    need-keeps (every (writable plane blocks)) 20 0 _ (λ e. inl (tt, refl)) λ e.
-    need-keeps (eqb (length values) (63 * blocks)) 21 0 _ (λ f. inl (tt, refl)) λ f.
-    need-keeps (goodTable codes) 10 0 _ (λ t. inl (tt, refl)) λ t.
-    unless-keeps 11 (firstOutside Ac plane values) _ (λ i g. inr (inl (tt, outside-first Ac plane values i g))) λ o.
-    unless-keeps 19 (lacking codes (tokens blocks values)) _ (λ v g. inr (inr (inl (tt, lacked codes (tokens blocks values) v g)))) λ m.
-    fitting-keeps (acBytes blocks codes values) (λ h. inr (inr (inr (tt, (refl, h)))))
+ac-write-judged plane blocks codes values room =
+    failing-judged (every (writable plane blocks)) 20 _ λ e.
+    failing-judged (eqb (length values) (63 * blocks)) 21 _ λ f.
+    failing-judged (goodTable codes) 10 _ λ t.
+    outside-judged Ac plane values _ λ o.
+    unless-judged (FirstLacking codes (tokens blocks values)) 19 (lacking codes (tokens blocks values)) _ (lacked codes (tokens blocks values)) (lacking-first codes (tokens blocks values)) λ m.
+    fitting-judged room (length (acBytes blocks codes values)) (acBytes blocks codes values) refl
 
 -- ---- the transform and the merge
 
-pub transform-keeps : (refinement blocks : ℕ) (values : List ℤ) (quantisers : List ℕ) (room : ℕ) → Keeps (transformRows refinement blocks values quantisers room) room (inverseTransform refinement blocks values quantisers room)
+pub transform-judged : (refinement blocks : ℕ) (values : List ℤ) (quantisers : List ℕ) (room : ℕ) → Judged (transformRows refinement blocks values quantisers room) room (inverseTransform refinement blocks values quantisers room)
 unfolding inverseTransform transformRows firstBadQuantiser
-transform-keeps refinement blocks values quantisers room =
-    need-keeps (every (leb refinement 4 ∷ leb blocks 1024 ∷ [])) 20 0 _ (λ e. inl (tt, refl)) λ e.
-    need-keeps (every (eqb (length values) (blocks * 64) ∷ eqb (length quantisers) 64 ∷ [])) 21 0 _ (λ f. inl (tt, refl)) λ f.
-    unless-keeps 22 (firstBadQuantiser quantisers) _ (λ i g. inr (inl (tt, first-index (length quantisers) (λ i. isQuantiser (getD quantisers i 0)) i g))) λ q.
-    unless-keeps 11 (firstOutside Whole refinement values) _ (λ i g. inr (inr (inl (tt, outside-first Whole refinement values i g)))) λ o.
-    fitting-keeps (picture refinement blocks values quantisers) (λ h. inr (inr (inr (tt, (picture-length refinement blocks values quantisers, h)))))
+transform-judged refinement blocks values quantisers room =
+    failing-judged (every (leb refinement 4 ∷ leb blocks 1024 ∷ [])) 20 _ λ e.
+    failing-judged (every (eqb (length values) (blocks * 64) ∷ eqb (length quantisers) 64 ∷ [])) 21 _ λ f.
+    unless-judged (First (length quantisers) (λ i. isQuantiser (getD quantisers i 0))) 22 (firstFail (length quantisers) (λ i. isQuantiser (getD quantisers i 0))) _
+    (first-index (length quantisers) (λ i. isQuantiser (getD quantisers i 0))) (index-first (length quantisers) (λ i. isQuantiser (getD quantisers i 0))) λ q.
+    outside-judged Whole refinement values _ λ o.
+    fitting-judged room (blocks * 64) (picture refinement blocks values quantisers) (picture-length refinement blocks values quantisers)
 
-pub merge-keeps : (s : Setting) (pixels : ℕ) (base residual : List ℤ) (table : List ℕ) (room : ℕ) → Keeps (mergeRows s pixels table room) room (merge s pixels base residual table room)
+pub merge-judged : (s : Setting) (pixels : ℕ) (base residual : List ℤ) (table : List ℕ) (room : ℕ) → Judged (mergeRows s pixels base residual table room) room (merge s pixels base residual table room)
 unfolding merge mergeRows
-merge-keeps s pixels base residual table room =
-    need-keeps (inRanges s pixels) 20 0 _ (λ e. inl (tt, refl)) λ e.
-    need-keeps (plain s) 20 0 _ (λ f. inl (tt, refl)) λ f.
-    need-keeps (srgbAllowed s) 20 0 _ (λ g. inl (tt, refl)) λ g.
-    need-keeps (lengthsRight s pixels base residual table) 21 0 _ (λ h. inl (tt, refl)) λ h.
-    unless-keeps 11 (firstFail (length table) (entryRight (top (s .rb)) table)) _ (λ i q. inr (inl (tt, first-index (length table) (entryRight (top (s .rb)) table) i q))) λ o.
-    fitting-keeps (merging.mergedPicture s pixels base residual table) (λ l. inr (inr (tt, (picture-long s pixels base residual table room, l))))
+merge-judged s pixels base residual table room =
+    failing-judged (inRanges s pixels) 20 _ λ e.
+    failing-judged (plain s) 20 _ λ f.
+    failing-judged (srgbAllowed s) 20 _ λ g.
+    failing-judged (lengthsRight s pixels base residual table) 21 _ λ h.
+    unless-judged (First (length table) (entryRight (top (s .rb)) table)) 11 (firstFail (length table) (entryRight (top (s .rb)) table)) _
+    (first-index (length table) (entryRight (top (s .rb)) table)) (index-first (length table) (entryRight (top (s .rb)) table)) λ o.
+    fitting-judged room (samples s pixels) (merging.mergedPicture s pixels base residual table) (picture-long s pixels base residual table room)
 
 -- ---- no row has the number 0
 
+row-zero : (number : ℕ) (means : ℕ → Type 0) → 0 < number → NoZero (row number means)
+row-zero number means l = record { never = λ p h. let e = h .0 in omega arith }
+
+infixr 5 _and_
+_and_ : {first later : Rows} → NoZero first → NoZero later → NoZero (first then later)
+_and_ f g = record { never = λ p. ⊎-elim (f .never p) (λ h. g .never p (h .1)) }
+
+rows-zero : (numbers : List ℕ) (means : Rows) → (T (stands 0 numbers) → ⊥) → NoZero (rows numbers means)
+rows-zero numbers means n = record { never = λ p h. n (h .0) }
+
 pub box-zero : (file : List ℕ) (kind instance room : ℕ) → NoZero (boxRows file kind instance room)
 unfolding boxRows packetRows
-box-zero file kind instance room p = ⊎-elim (λ h. h .0) (⊎-elim (λ h. h .0) (⊎-elim (λ h. h .0) (⊎-elim (λ h. h .0) (⊎-elim (λ h. h .0) (⊎-elim (λ h. h .0) (⊎-elim (λ h. h .0) (λ h. h .0)))))))
+box-zero file kind instance room =
+    row-zero 1 _ (omega arith) and rows-zero (2 ∷ 3 ∷ []) _ (λ h. h) and row-zero 4 _ (omega arith) and row-zero 5 _ (omega arith) and row-zero 6 _ (omega arith) and row-zero 7 _ (omega arith)
+    and row-zero 8 _ (omega arith) and row-zero 9 _ (omega arith)
 
 pub dc-read-zero : (plane blocks : ℕ) (values : List ℤ) (bytes : List ℕ) (room : ℕ) → NoZero (dcReadRows plane blocks values bytes room)
 unfolding dcReadRows
-dc-read-zero plane blocks values bytes room p = ⊎-elim (λ h. h .0) (⊎-elim (λ h. h .0) (⊎-elim (λ h. h .0) (⊎-elim (λ h. h .0) (λ h. h .0))))
+dc-read-zero plane blocks values bytes room =
+    row-zero 20 _ (omega arith) and row-zero 21 _ (omega arith) and row-zero 11 _ (omega arith) and row-zero 9 _ (omega arith) and rows-zero (12 ∷ 13 ∷ []) _ (λ h. h) and row-zero 18 _ (omega arith)
 
-pub ac-read-zero : (plane blocks : ℕ) (values : List ℤ) (bytes : List ℕ) (room : ℕ) → NoZero (acReadRows plane blocks values bytes room)
+pub ac-read-zero : (plane blocks : ℕ) (codes : Table) (values : List ℤ) (bytes : List ℕ) (room : ℕ) → NoZero (acReadRows plane blocks codes values bytes room)
 unfolding acReadRows
-ac-read-zero plane blocks values bytes room p = ⊎-elim (λ h. h .0) (⊎-elim (λ h. h .0) (⊎-elim (λ h. h .0) (⊎-elim (λ h. h .0) (λ h. h .0))))
+ac-read-zero plane blocks codes values bytes room =
+    row-zero 20 _ (omega arith) and row-zero 21 _ (omega arith) and row-zero 10 _ (omega arith) and row-zero 11 _ (omega arith) and row-zero 9 _ (omega arith) and rows-zero (12 ∷ 13 ∷ 14 ∷ 15 ∷ 16 ∷ 17 ∷ []) _ (λ h. h)
+    and row-zero 18 _ (omega arith)
 
 pub list-zero : (file : List ℕ) (room : ℕ) → NoZero (listRows file room)
 unfolding listRows
-list-zero file room p h = h .0
+list-zero file room = row-zero 9 _ (omega arith)
 
-pub dc-write-zero : (plane : ℕ) (values : List ℤ) (room : ℕ) → NoZero (dcWriteRows plane values room)
+pub dc-write-zero : (plane blocks : ℕ) (values : List ℤ) (room : ℕ) → NoZero (dcWriteRows plane blocks values room)
 unfolding dcWriteRows
-dc-write-zero plane values room p = ⊎-elim (λ h. h .0) (⊎-elim (λ h. h .0) (λ h. h .0))
+dc-write-zero plane blocks values room = row-zero 20 _ (omega arith) and row-zero 21 _ (omega arith) and row-zero 11 _ (omega arith) and row-zero 9 _ (omega arith)
 
 pub ac-write-zero : (plane blocks : ℕ) (codes : Table) (values : List ℤ) (room : ℕ) → NoZero (acWriteRows plane blocks codes values room)
 unfolding acWriteRows
-ac-write-zero plane blocks codes values room p = ⊎-elim (λ h. h .0) (⊎-elim (λ h. h .0) (⊎-elim (λ h. h .0) (λ h. h .0)))
+ac-write-zero plane blocks codes values room =
+    row-zero 20 _ (omega arith) and row-zero 21 _ (omega arith) and row-zero 10 _ (omega arith) and row-zero 11 _ (omega arith) and row-zero 19 _ (omega arith) and row-zero 9 _ (omega arith)
 
 pub transform-zero : (refinement blocks : ℕ) (values : List ℤ) (quantisers : List ℕ) (room : ℕ) → NoZero (transformRows refinement blocks values quantisers room)
 unfolding transformRows
-transform-zero refinement blocks values quantisers room p = ⊎-elim (λ h. h .0) (⊎-elim (λ h. h .0) (⊎-elim (λ h. h .0) (λ h. h .0)))
+transform-zero refinement blocks values quantisers room =
+    row-zero 20 _ (omega arith) and row-zero 21 _ (omega arith) and row-zero 22 _ (omega arith) and row-zero 11 _ (omega arith) and row-zero 9 _ (omega arith)
 
-pub merge-zero : (s : Setting) (pixels : ℕ) (table : List ℕ) (room : ℕ) → NoZero (mergeRows s pixels table room)
+pub merge-zero : (s : Setting) (pixels : ℕ) (base residual : List ℤ) (table : List ℕ) (room : ℕ) → NoZero (mergeRows s pixels base residual table room)
 unfolding mergeRows
-merge-zero s pixels table room p = ⊎-elim (λ h. h .0) (⊎-elim (λ h. h .0) (λ h. h .0))
+merge-zero s pixels base residual table room =
+    row-zero 20 _ (omega arith) and row-zero 20 _ (omega arith) and row-zero 20 _ (omega arith) and row-zero 21 _ (omega arith) and row-zero 11 _ (omega arith) and row-zero 9 _ (omega arith)
 
 pub demand-one : DemandOne
 demand-one = record {
-  boxes = λ file kind instance before. answered 0 (box-zero file kind instance (length before)) before _ (box-keeps file kind instance (length before));
-  listings = λ file before. answered 0 (list-zero file (length before)) before _ (list-keeps file (length before));
-  dcRead = λ plane blocks values bytes before. answered (pos 0) (dc-read-zero plane blocks values bytes (length before)) before _ (dc-read-keeps plane blocks values bytes (length before));
-  acRead = λ plane blocks codes values bytes before. answered (pos 0) (ac-read-zero plane blocks values bytes (length before)) before _ (ac-read-keeps plane blocks codes values bytes (length before));
-  dcWrite = λ plane blocks values before. answered 0 (dc-write-zero plane values (length before)) before _ (dc-write-keeps plane blocks values (length before));
-  acWrite = λ plane blocks codes values before. answered 0 (ac-write-zero plane blocks codes values (length before)) before _ (ac-write-keeps plane blocks codes values (length before));
-  transforms = λ refinement blocks values quantisers before. answered (pos 0) (transform-zero refinement blocks values quantisers (length before)) before _ (transform-keeps refinement blocks values quantisers (length before));
-  merges = λ s pixels base residual table before. answered 0 (merge-zero s pixels table (length before)) before _ (merge-keeps s pixels base residual table (length before));
+  boxes = λ file kind instance before. answered 0 (box-zero file kind instance (length before)) before _ (box-judged file kind instance (length before));
+  listings = λ file before. answered 0 (list-zero file (length before)) before _ (list-judged file (length before));
+  dcRead = λ plane blocks values bytes before. answered (pos 0) (dc-read-zero plane blocks values bytes (length before)) before _ (dc-read-judged plane blocks values bytes (length before));
+  acRead = λ plane blocks codes values bytes before. answered (pos 0) (ac-read-zero plane blocks codes values bytes (length before)) before _ (ac-read-judged plane blocks codes values bytes (length before));
+  dcWrite = λ plane blocks values before. answered 0 (dc-write-zero plane blocks values (length before)) before _ (dc-write-judged plane blocks values (length before));
+  acWrite = λ plane blocks codes values before. answered 0 (ac-write-zero plane blocks codes values (length before)) before _ (ac-write-judged plane blocks codes values (length before));
+  transforms = λ refinement blocks values quantisers before. answered (pos 0) (transform-zero refinement blocks values quantisers (length before)) before _ (transform-judged refinement blocks values quantisers (length before));
+  merges = λ s pixels base residual table before. answered 0 (merge-zero s pixels base residual table (length before)) before _ (merge-judged s pixels base residual table (length before));
 }

@@ -1,16 +1,17 @@
 -- With which numbers the readers of planes stop, in which block, and how many values and bytes they read. Assumes nothing.
-use mathlib.Core.Path.{_≡_, refl, ap, _∙_}
-use mathlib.Core.Bool.{Bool}
+use mathlib.Core.Path.{_≡_, refl, sym, ap, _∙_}
+use mathlib.Core.Bool.{Bool, true, false}
 use mathlib.Core.List.{List, [], _∷_}
 use mathlib.Core.Option.{Option, none, some}
 use Prim.Native.Nat.{ℕ, zero, suc, _+_, _-_, _*_, _/_, _%_, _^_, _≤_, _<_}
 use native.Mathlib.Omega.{arith}
-use lib.Dec.{eqb, ltb, leb}
+use lib.Dec.{T, eqb, ltb, leb}
 use lib.IntN.{ℤ, pos, negsuc}
 use lib.ListN.{length, take, drop, length-append, length-drop}
 use lib.Seq.{length-take-le}
-use Rattle.laws.proofs.Choices.{by-test}
-use Rattle.answers.specs.Verdict.{given}
+use Rattle.laws.proofs.Choices.{by-test, true-false}
+use Rattle.answers.specs.Verdict.{given, refusal, need}
+use Rattle.answers.specs.declared.Refusal.{Refusal}
 use Rattle.bits.specs.Digits.{bin}
 use Rattle.bits.specs.Source.{Source, Out, got, stopped, opened, afterFF, nextByte, takeFrom, takeBit, onlyPadding}
 use Rattle.bits.specs.Reader.{Reader, andThen}
@@ -20,8 +21,10 @@ use Rattle.planes.specs.Plane.{Plane, read, broken, onto, inBlock, closed}
 use Rattle.planes.specs.Dc.{newDc, dcBlocks}
 use Rattle.planes.specs.Task.{Task, walk, ended}
 use Rattle.planes.specs.AcRead.{takeNumber, endRun, meaning, taskAt, position, blockEnd, acBlock, cut, acBlocks}
-use Rattle.demands.specs.One.{Rows}
-use Rattle.demands.proofs.Rows.{Keeps, gives, refuses, need-keeps}
+use Rattle.demands.specs.One.{Rows, stands, row, rows, _then_}
+use Rattle.demands.specs.Blocks.{StopsAt, LeftOver}
+use Rattle.demands.proofs.Rows.{Judged, gives, passed, told, told-last}
+use Rattle.demands.proofs.Blocks.{over, halted, endOf, over-halted, over-one, halted-one}
 
 abbrev Any : {A : Type 0} → A → Type 0
 Any a = Unit {0}
@@ -41,9 +44,9 @@ module _ (P : ℕ → Type 0) (all : ℕ) where
   Stops Q (got a s) = Q a × Kept s
   Stops Q (stopped x) = P (x .number)
 
-  then : {A B : Type 0} (Q : A → Type 0) (R : B → Type 0) (f : A → Reader B) (o : Out A) → Stops Q o → ((a : A) → Q a → (s : Source) → Kept s → Stops R (f a s)) → Stops R (andThen f o)
-  then Q R f (got a s) h g = g a (h .0) s (h .1)
-  then Q R f (stopped x) h g = h
+  onward : {A B : Type 0} (Q : A → Type 0) (R : B → Type 0) (f : A → Reader B) (o : Out A) → Stops Q o → ((a : A) → Q a → (s : Source) → Kept s → Stops R (f a s)) → Stops R (andThen f o)
+  onward Q R f (got a s) h g = g a (h .0) s (h .1)
+  onward Q R f (stopped x) h g = h
 
   module _ (p12 : P 12) (p13 : P 13) where
     after-ff : (coming : List ℕ) (seen : ℕ) → seen + suc (length coming) ≡ all → Stops Any (afterFF coming seen)
@@ -63,41 +66,41 @@ module _ (P : ℕ → Type 0) (all : ℕ) where
     bit s k = bit-from (s .pending) (s .coming) (s .seen) k
 
     module _ (p14 : P 14) (p15 : P 15) (p16 : P 16) (p17 : P 17) where
-      code-from : (counts values : List ℕ) (over : ℕ) (s : Source) → Kept s → Stops Any (codeFrom counts values over s)
+      code-from : (counts values : List ℕ) (so-far : ℕ) (s : Source) → Kept s → Stops Any (codeFrom counts values so-far s)
       unfolding codeFrom
-      code-from [] values over s k = p14
-      code-from (n ∷ counts) values over s k =
-          then Any Any _ (takeBit s) (bit s k) λ b h t l.
-          by-test (λ (m : Reader ℕ). Stops Any (m t)) (ltb (2 * over + bin b) n) (λ e. (tt, l)) (λ e. code-from counts (drop n values) (2 * over + bin b - n) t l)
+      code-from [] values so-far s k = p14
+      code-from (n ∷ counts) values so-far s k =
+          onward Any Any _ (takeBit s) (bit s k) λ b h t l.
+          by-test (λ (m : Reader ℕ). Stops Any (m t)) (ltb (2 * so-far + bin b) n) (λ e. (tt, l)) (λ e. code-from counts (drop n values) (2 * so-far + bin b - n) t l)
 
       number-from : (n v : ℕ) (s : Source) → Kept s → Stops Any (takeNumber n v s)
       unfolding takeNumber
       number-from zero v s k = (tt, k)
-      number-from (suc n) v s k = then Any Any _ (takeBit s) (bit s k) λ b h t l. number-from n (2 * v + bin b) t l
+      number-from (suc n) v s k = onward Any Any _ (takeBit s) (bit s k) λ b h t l. number-from n (2 * v + bin b) t l
 
       run-end : (left r : ℕ) (s : Source) → Kept s → Stops Any (endRun left r s)
       unfolding endRun
       run-end left r s k =
-          then Any Any _ (takeNumber r 0 s) (number-from r 0 s k) λ e h t l.
+          onward Any Any _ (takeNumber r 0 s) (number-from r 0 s k) λ e h t l.
           by-test (λ (m : Reader Task). Stops Any (m t)) (leb (2 ^ r + e) left) (λ q. (tt, l)) (λ q. p17)
 
       meant : (left r s : ℕ) (t : Source) → Kept t → Stops Any (meaning left r s t)
       unfolding meaning
       meant left r zero t k = by-test (λ (m : Reader Task). Stops Any (m t)) (ltb r 15) (λ q. run-end left r t k) (λ q. (tt, k))
-      meant left r (suc zero) t k = then Any Any _ (takeBit t) (bit t k) λ b h u l. (tt, l)
+      meant left r (suc zero) t k = onward Any Any _ (takeBit t) (bit t k) λ b h u l. (tt, l)
       meant left r (suc (suc s)) t k = p15
 
       task-at : (codes : Table) (left : ℕ) (o : Option Task) (s : Source) → Kept s → Stops Any (taskAt codes left o s)
       unfolding taskAt takeCode
       task-at codes left (some t) s k = (tt, k)
       task-at codes left none s k =
-          then Any Any _ (codeFrom (codes .counts) (codes .values) 0 s) (code-from (codes .counts) (codes .values) 0 s k) λ v h t l. meant left (v / 16) (v % 16) t l
+          onward Any Any _ (codeFrom (codes .counts) (codes .values) 0 s) (code-from (codes .counts) (codes .values) 0 s k) λ v h t l. meant left (v / 16) (v % 16) t l
 
       at-position : (t : Task) (c : ℤ) (s : Source) → Kept s → Stops Any (position t c s)
       unfolding position
       at-position t (pos zero) s k = (tt, k)
-      at-position t (pos (suc n)) s k = then Any Any _ (takeBit s) (bit s k) λ b h u l. (tt, l)
-      at-position t (negsuc n) s k = then Any Any _ (takeBit s) (bit s k) λ b h u l. (tt, l)
+      at-position t (pos (suc n)) s k = onward Any Any _ (takeBit s) (bit s k) λ b h u l. (tt, l)
+      at-position t (negsuc n) s k = onward Any Any _ (takeBit s) (bit s k) λ b h u l. (tt, l)
 
       abbrev Long : ℕ → List ℤ × Option Task → Type 0
       Long n r = length (r .0) ≡ n
@@ -112,9 +115,9 @@ module _ (P : ℕ → Type 0) (all : ℕ) where
       unfolding acBlock
       one-block codes left o [] s k = at-end o s k
       one-block codes left o (c ∷ values) s k =
-          then Any (Long (suc (length values))) _ (taskAt codes left o s) (task-at codes left o s k) λ t h u l.
-          then Any (Long (suc (length values))) _ (position t c u) (at-position t c u l) λ x i v m.
-          then (Long (length values)) (Long (suc (length values))) _ (acBlock codes left (x .1) values v) (one-block codes left (x .1) values v m) λ r j w n. (ap suc j, n)
+          onward Any (Long (suc (length values))) _ (taskAt codes left o s) (task-at codes left o s k) λ t h u l.
+          onward Any (Long (suc (length values))) _ (position t c u) (at-position t c u l) λ x i v m.
+          onward (Long (length values)) (Long (suc (length values))) _ (acBlock codes left (x .1) values v) (one-block codes left (x .1) values v m) λ r j w n. (ap suc j, n)
 
   -- ---- blocks one after another: n values, or P of the number and a block below `upto`
 
@@ -148,14 +151,24 @@ module _ (P : ℕ → Type 0) (all : ℕ) where
         (one-block p12 p13 p14 p15 p16 p17 codes (suc (length bs)) o b s k) λ r h t l.
         in-front upto (sizes bs) (length b + sizes bs) (r .0) (acBlocks codes (suc block) (r .1) bs t) (omega (arith, h)) (ac-blocks codes upto (suc block) (r .1) bs t (omega arith) l)
 
-  -- ---- the plane closed
+-- ---- the plane closed: the blocks' rows, then 18
 
-  pub closed-keeps : {table : Rows} {room : ℕ} (upto n : ℕ) (p : Plane) → n ≤ room → ((number place : ℕ) → P number → place < upto → table number place)
-      → ((place : ℕ) → place ≤ all → table 18 place) → Blocks upto n p → Keeps table room (closed p)
+module _ {A B : Type 0} (one : A → B → List B → Source → Out A) (o₀ : A) (bs₀ : List B) (s₀ : Source) (room : ℕ) (numbers : List ℕ) (all upto n : ℕ) where
+  padded : (values : List ℤ) (s : Source) → length values ≤ room → (onlyPadding s ≡ false → LeftOver one o₀ bs₀ s₀ (s .seen)) → ((q : ℕ) (h : LeftOver one o₀ bs₀ s₀ q) → s ≡ h .source)
+      → (b : Bool) → onlyPadding s ≡ b → Judged (row 18 (LeftOver one o₀ bs₀ s₀)) room (need b 18 (s .seen) (given values))
+  padded values s l f g true t = record { kept = gives l; only = λ m q h. absurd (true-false (sym t ∙ (ap onlyPadding (g q (h .1)) ∙ h .1 .more))) }
+  padded values s l f g false t = told-last (refusal 18 (s .seen)) (refl, f t) (λ m q h. (h .0, h .1 .place ∙ ap (λ (u : Source). u .seen) (sym (g q (h .1)))))
+
+  pub closed-judged : (p : Plane) → n ≤ room → Blocks (λ (m : ℕ). T (stands m numbers)) all upto n p
+      → ((r : Refusal) → endOf p ≡ halted r → StopsAt one o₀ bs₀ s₀ (r .number) (r .place))
+      → ((m q : ℕ) → StopsAt one o₀ bs₀ s₀ m q → endOf p ≡ halted (refusal m q))
+      → ((s : Source) → endOf p ≡ over s → onlyPadding s ≡ false → LeftOver one o₀ bs₀ s₀ (s .seen))
+      → ((q : ℕ) (h : LeftOver one o₀ bs₀ s₀ q) → endOf p ≡ over (h .source)) → Judged (rows numbers (StopsAt one o₀ bs₀ s₀) then row 18 (LeftOver one o₀ bs₀ s₀)) room (closed p)
   unfolding closed
-  closed-keeps upto n (read values s) l f g h =
-      need-keeps (onlyPadding s) 18 (s .seen) (given values) (λ e. g (s .seen) (omega (arith, h .1))) (λ e. gives (omega (arith, h .0)))
-  closed-keeps upto n (broken r) l f g h = refuses (f (r .number) (r .place) (h .0) (h .1))
+  closed-judged (read values s) l h f g f′ g′ =
+      passed (λ m q k. over-halted (g m q (k .1)))
+      (padded values s (omega (arith, h .0)) (f′ s refl) (λ q k. over-one (g′ q k)) (onlyPadding s) refl)
+  closed-judged (broken r) l h f g f′ g′ = told r (h .0, f r refl) (λ m q k. halted-one (g m q (k .1)))
 
 -- ---- blocks of 63 values
 

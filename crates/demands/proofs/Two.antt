@@ -34,19 +34,22 @@ use Rattle.settings.specs.Tests.{inRanges, plain, srgbAllowed, lengthsRight, en
 use Rattle.merge.specs.Picture.{mergedPicture, merge}
 use Rattle.demands.specs.One.{Rows}
 use Rattle.demands.specs.Two.{Exactly, Listed, DcRefined, AcRefined, DcCoded, AcCoded, Sampled, Merged, DemandTwo}
-use Rattle.demands.proofs.Rows.{Keeps, refuses, NoZero}
-use Rattle.demands.proofs.Walked.{box-keeps}
-use Rattle.demands.proofs.One.{list-keeps, list-zero, dc-read-keeps, ac-read-keeps, dc-write-keeps, ac-write-keeps, transform-keeps, merge-keeps, box-zero, dc-read-zero, ac-read-zero, dc-write-zero, ac-write-zero, transform-zero, merge-zero}
+use Rattle.demands.proofs.Rows.{Keeps, refuses, Judged, NoZero}
+use Rattle.demands.proofs.Walked.{box-judged}
+use Rattle.demands.proofs.One.{list-judged, list-zero, dc-read-judged, ac-read-judged, dc-write-judged, ac-write-judged, transform-judged, merge-judged, box-zero, dc-read-zero, ac-read-zero, dc-write-zero, ac-write-zero, transform-zero, merge-zero}
 
 -- ---- from a verdict to what was written
 
 refused-given : {A : Type 0} {r : Refusal} {ys : List A} → refused r ≡ given ys → ⊥
 refused-given e = let z : _≡_ {A = ℕ} 0 1 = cc in omega arith
 
-module _ {A : Type 0} (zero : A) {Right : List A → Type 0} {table : Rows} (never : NoZero table) (before : List A) where
-  exactly : (v : Verdict A) → Keeps table (length before) v → ((ys : List A) → v ≡ given ys → Right ys) → ((ys : List A) → Right ys → v ≡ given ys)
+by-row : {A : Type 0} {table : Rows} {room : ℕ} (r : Refusal) → Keeps {A = A} table room (refused r) → table (r .number) (r .place)
+by-row r (refuses t) = t
+
+module _ {A : Type 0} (zero : A) {Right : List A → Type 0} {table : Rows} (none : NoZero table) (before : List A) where
+  exactly : (v : Verdict A) → Judged table (length before) v → ((ys : List A) → v ≡ given ys → Right ys) → ((ys : List A) → Right ys → v ≡ given ys)
       → (after : List A) (answer : Answer) → Meets zero v before after answer → Exactly Right after answer
-  exactly (given ys) k f g after answer m =
+  exactly (given ys) j f g after answer m =
       let w : take (answer .place) after ≡ ys = rw (m .answered, m .held) (take-append-seam ys (drop (length ys) before)) in
       record {
         sound = λ e. subst Right (sym w) (f ys refl);
@@ -55,9 +58,9 @@ module _ {A : Type 0} (zero : A) {Right : List A → Type 0} {table : Rows} (nev
     where
       same : (zs : List A) → given ys ≡ given zs → ys ≡ zs
       same zs e = cc
-  exactly (refused r) (refuses t) f g after answer m =
+  exactly (refused r) j f g after answer m =
       record {
-        sound = λ e. absurd (never (r .place) (subst (λ (n : ℕ). table n (r .place)) (sym (ap (λ (a : Answer). a .number) (m .answered)) ∙ e) t));
+        sound = λ e. absurd (none .never (r .place) (subst (λ (n : ℕ). table n (r .place)) (sym (ap (λ (a : Answer). a .number) (m .answered)) ∙ e) (by-row r (j .kept))));
         complete = λ zs q. absurd (refused-given (g zs q));
       }
 
@@ -97,7 +100,7 @@ given-closed p ys s e h = rw (e, h)
 -- ---- reading planes
 
 module _ (plane blocks : ℕ) (values : List ℤ) (bytes : List ℕ) (room : ℕ) where
-  dc-refined : (ys : List ℤ) → readDc plane blocks values bytes room ≡ given ys → DcRefined plane blocks values bytes room ys
+  pub dc-refined : (ys : List ℤ) → readDc plane blocks values bytes room ≡ given ys → DcRefined plane blocks values bytes room ys
   unfolding readDc
   dc-refined ys e =
       let a = need-given (every (readable plane blocks)) 20 0 _ ys e in
@@ -167,7 +170,7 @@ module _ (plane blocks : ℕ) (values : List ℤ) (room : ℕ) where
 -- ---- samples and merged results
 
 module _ (refinement blocks : ℕ) (values : List ℤ) (quantisers : List ℕ) (room : ℕ) where
-  sampled : (ys : List ℤ) → inverseTransform refinement blocks values quantisers room ≡ given ys → Sampled refinement blocks values quantisers room ys
+  pub sampled : (ys : List ℤ) → inverseTransform refinement blocks values quantisers room ≡ given ys → Sampled refinement blocks values quantisers room ys
   unfolding inverseTransform
   sampled ys e =
       let a = need-given (every (leb refinement 4 ∷ leb blocks 1024 ∷ [])) 20 0 _ ys e in
@@ -211,19 +214,19 @@ module _ (file : List ℕ) (room : ℕ) where
 pub demand-two : DemandTwo
 demand-two = record {
   boxes = λ file kind instance before.
-      exactly 0 (box-zero file kind instance (length before)) before _ (box-keeps file kind instance (length before)) (given-handed file kind instance (length before)) (handed-given file kind instance (length before));
+      exactly 0 (box-zero file kind instance (length before)) before _ (box-judged file kind instance (length before)) (given-handed file kind instance (length before)) (handed-given file kind instance (length before));
   listings = λ file before.
-      exactly 0 (list-zero file (length before)) before _ (list-keeps file (length before)) (listed-text file (length before)) (text-listed file (length before));
+      exactly 0 (list-zero file (length before)) before _ (list-judged file (length before)) (listed-text file (length before)) (text-listed file (length before));
   dcRead = λ plane blocks values bytes before.
-      exactly (pos 0) (dc-read-zero plane blocks values bytes (length before)) before _ (dc-read-keeps plane blocks values bytes (length before)) (dc-refined plane blocks values bytes (length before)) (dc-given plane blocks values bytes (length before));
+      exactly (pos 0) (dc-read-zero plane blocks values bytes (length before)) before _ (dc-read-judged plane blocks values bytes (length before)) (dc-refined plane blocks values bytes (length before)) (dc-given plane blocks values bytes (length before));
   acRead = λ plane blocks codes values bytes before.
-      exactly (pos 0) (ac-read-zero plane blocks values bytes (length before)) before _ (ac-read-keeps plane blocks codes values bytes (length before)) (ac-refined plane blocks values bytes (length before) codes) (ac-given plane blocks values bytes (length before) codes);
+      exactly (pos 0) (ac-read-zero plane blocks codes values bytes (length before)) before _ (ac-read-judged plane blocks codes values bytes (length before)) (ac-refined plane blocks values bytes (length before) codes) (ac-given plane blocks values bytes (length before) codes);
   dcWrite = λ plane blocks values before.
-      exactly 0 (dc-write-zero plane values (length before)) before _ (dc-write-keeps plane blocks values (length before)) (dc-coded plane blocks values (length before)) (coded-dc plane blocks values (length before));
+      exactly 0 (dc-write-zero plane blocks values (length before)) before _ (dc-write-judged plane blocks values (length before)) (dc-coded plane blocks values (length before)) (coded-dc plane blocks values (length before));
   acWrite = λ plane blocks codes values before.
-      exactly 0 (ac-write-zero plane blocks codes values (length before)) before _ (ac-write-keeps plane blocks codes values (length before)) (ac-coded plane blocks values (length before) codes) (coded-ac plane blocks values (length before) codes);
+      exactly 0 (ac-write-zero plane blocks codes values (length before)) before _ (ac-write-judged plane blocks codes values (length before)) (ac-coded plane blocks values (length before) codes) (coded-ac plane blocks values (length before) codes);
   transforms = λ refinement blocks values quantisers before.
-      exactly (pos 0) (transform-zero refinement blocks values quantisers (length before)) before _ (transform-keeps refinement blocks values quantisers (length before)) (sampled refinement blocks values quantisers (length before)) (sampled-given refinement blocks values quantisers (length before));
+      exactly (pos 0) (transform-zero refinement blocks values quantisers (length before)) before _ (transform-judged refinement blocks values quantisers (length before)) (sampled refinement blocks values quantisers (length before)) (sampled-given refinement blocks values quantisers (length before));
   merges = λ s pixels base residual table before.
-      exactly 0 (merge-zero s pixels table (length before)) before _ (merge-keeps s pixels base residual table (length before)) (merged s pixels base residual table (length before)) (merged-given s pixels base residual table (length before));
+      exactly 0 (merge-zero s pixels base residual table (length before)) before _ (merge-judged s pixels base residual table (length before)) (merged s pixels base residual table (length before)) (merged-given s pixels base residual table (length before));
 }

@@ -1,14 +1,15 @@
 -- By which rows a box is refused, and at which places. Assumes nothing.
 use mathlib.Core.Path.{_≡_, refl, sym, ap, subst, _∙_}
-use mathlib.Core.Logic.{_⊎_, inl, inr, ⊎-elim}
-use mathlib.Core.Bool.{true, false}
+use mathlib.Core.Logic.{_⊎_, inl, inr}
+use mathlib.Core.Bool.{Bool, true, false}
 use mathlib.Core.List.{List, [], _∷_}
 use Prim.Native.Nat.{ℕ, zero, suc, _+_, _≤_, _<_}
 use native.Mathlib.Omega.{arith}
 use lib.Dec.{eqb, leb, ltb}
 use lib.ListN.{length, getD, drop}
-use Rattle.laws.proofs.Choices.{either, by-test}
-use Rattle.answers.specs.Verdict.{Verdict, refusal}
+use Rattle.laws.specs.declared.Found.the-variants.{At}
+use Rattle.laws.proofs.Choices.{by-test, true-false}
+use Rattle.answers.specs.Verdict.{refusal}
 use Rattle.answers.specs.declared.Refusal.{Refusal}
 use Rattle.answers.specs.declared.Outcome.{Outcome}
 use Rattle.answers.specs.declared.Outcome.the-variants.{Given, Refused}
@@ -17,12 +18,12 @@ use Rattle.packets.specs.declared.Step.{Step}
 use Rattle.packets.specs.declared.Step.the-variants.{End, Skip, Meet, Broken}
 use Rattle.packets.specs.Packets.{Packet, packets, mine}
 use Rattle.packets.proofs.Walking.{walk-begun, walk-not, forward-skip, forward-meet, ending-end, ending-broken, ending-skip, ending-meet}
-use Rattle.numbers.specs.Numbers.{numbers, firstTwice, firstMissing}
-use Rattle.numbers.proofs.Smallest.{smallest-twice, smallest-missing}
+use Rattle.numbers.specs.Numbers.{numbers, firstTwice, firstMissing, missingFrom}
+use Rattle.numbers.proofs.Smallest.{smallest-twice, twice-is, smallest-missing, missing-is}
 use Rattle.boxes.specs.Box.{agree, contents, total, joined, assembled, assemble, afterWalk, boxBytes}
 use Rattle.boxes.proofs.Order.{fine-total}
-use Rattle.demands.specs.One.{Rows, rows, _or_, Reached, first, skipped, met, brokenAt, packetRows, boxRows}
-use Rattle.demands.proofs.Rows.{Keeps, gives, refuses, need-keeps, unless-keeps, fitting-keeps}
+use Rattle.demands.specs.One.{Rows, row, rows, _then_, failing, Reached, first, skipped, met, brokenAt, twiceAt, missingAt, notFilled, packetRows, boxRows}
+use Rattle.demands.proofs.Rows.{Judged, passed, told, need-judged, failing-judged, unless-judged, fitting-judged}
 
 -- ---- a step is broken by 2 or 3, at its own position
 
@@ -62,22 +63,25 @@ module _ (file : List ℕ) (at : ℕ) where
 
 -- ---- the walk
 
-given-refused : {n : ℕ} {r : Refusal} → Given n ≡ Refused r → ⊥
-given-refused e = let z : _≡_ {A = ℕ} 0 1 = cc in omega arith
+refused-one : {r : Refusal} {n p : ℕ} → Refused r ≡ Refused (refusal n p) → (n ≡ r .number) × (p ≡ r .place)
+refused-one {r} {n} {p} e = let same : r ≡ refusal n p = cc in rw same (refl, refl)
+
+refused-given : {n : ℕ} {r : Refusal} → Given n ≡ Refused r → ⊥
+refused-given e = let z : _≡_ {A = ℕ} 0 1 = cc in omega arith
 
 module _ (file : List ℕ) where
   abbrev walkRows : Rows
-  walkRows = rows (2 ∷ []) (brokenAt file 2) or rows (3 ∷ []) (brokenAt file 3)
+  walkRows = rows (2 ∷ 3 ∷ []) (brokenAt file)
 
   broken-row : (at : ℕ) → Reached file at → (f : Refusal) → stepAt file at ≡ Broken f → (f ≡ refusal 2 at) ⊎ (f ≡ refusal 3 at) → walkRows (f .number) (f .place)
-  broken-row at reached f q (inl h) = subst (λ (x : Refusal). walkRows (x .number) (x .place)) (sym h) (inl (tt, (reached, q ∙ ap Broken h)))
-  broken-row at reached f q (inr h) = subst (λ (x : Refusal). walkRows (x .number) (x .place)) (sym h) (inr (tt, (reached, q ∙ ap Broken h)))
+  broken-row at reached f q (inl h) = subst (λ (x : Refusal). walkRows (x .number) (x .place)) (sym h) (tt, (reached, q ∙ ap Broken h))
+  broken-row at reached f q (inr h) = subst (λ (x : Refusal). walkRows (x .number) (x .place)) (sym h) (tt, (reached, q ∙ ap Broken h))
 
   -- one step, and what is known of the walk behind it
   step-rows : (at : ℕ) → Reached file at → (r : Refusal) → ending (stepsFrom file at) ≡ Refused r
       → ((next : ℕ) → at < next → next ≤ length file → Reached file next → ending (stepsFrom file next) ≡ Refused r → walkRows (r .number) (r .place))
       → (s : Step) → stepAt file at ≡ s → walkRows (r .number) (r .place)
-  step-rows at reached r e onward End q = absurd (given-refused (sym (ending-end file at q) ∙ e))
+  step-rows at reached r e onward End q = absurd (refused-given (sym (ending-end file at q) ∙ e))
   step-rows at reached r e onward (Broken f) q =
       let w : Refused f ≡ Refused r = sym (ending-broken file at q) ∙ e in
       let same : f ≡ r = cc in
@@ -91,34 +95,49 @@ module _ (file : List ℕ) where
   walk-rows zero at l reached r e = step-rows at reached r e (λ next h m g q. absurd (omega arith)) (stepAt file at) refl
   walk-rows (suc k) at l reached r e = step-rows at reached r e (λ next h m g q. walk-rows k next (omega arith) g r q) (stepAt file at) refl
 
+  -- the walk from where it comes by ends as the whole does
+  ends-alike : {at : ℕ} → Reached file at → ending (stepsFrom file at) ≡ ending (stepsFrom file 2)
+  ends-alike first = refl
+  ends-alike (skipped {at} h q) = sym (ending-skip file at q) ∙ ends-alike h
+  ends-alike (met {at} h q) = sym (ending-meet file at q) ∙ ends-alike h
+
+  rows-walk : (n p : ℕ) → walkRows n p → ending (stepsFrom file 2) ≡ Refused (refusal n p)
+  rows-walk n p h = sym (ends-alike (h .1 .0)) ∙ ending-broken file p (h .1 .1)
+
 -- ---- the packets of one box
 
-packets-keep : (ps : List Packet) (room : ℕ) → Keeps (packetRows ps room) room (assemble room ps)
+twice-both : (ns : List ℕ) (q : ℕ) → twiceAt ns q → firstTwice ns ≡ At q
+twice-both ns q h = twice-is ns q (h .0) (h .1)
+
+missing-both : (ns : List ℕ) (q : ℕ) → missingAt ns q → missingFrom (length ns) 1 ns ≡ At q
+missing-both ns q h = missing-is ns (length ns) 1 q (h .0) (h .1) (h .2) (h .3)
+
+packets-judged : (ps : List Packet) (room : ℕ) → Judged (packetRows ps room) room (assemble room ps)
 unfolding assemble assembled packetRows firstMissing
-packets-keep [] room = refuses (inl (tt, refl))
-packets-keep (p ∷ ps) room =
-    need-keeps (agree (p .head) (p ∷ ps)) 5 0 _ (λ e. inl (tt, refl)) λ e.
-    unless-keeps 6 (firstTwice (numbers (p ∷ ps))) _ (λ q f. inr (inl (tt, smallest-twice (numbers (p ∷ ps)) q f))) λ t.
-    unless-keeps 7 (firstMissing (numbers (p ∷ ps))) _ (λ q f. inr (inr (inl (tt, smallest-missing (numbers (p ∷ ps)) (length (numbers (p ∷ ps))) 1 q f)))) λ m.
-    need-keeps (eqb (total (p ∷ ps)) (contents (p .head))) 8 (total (p ∷ ps)) _ (λ f. inr (inr (inr (inl (tt, refl))))) λ f.
-    fitting-keeps (joined (p ∷ ps)) (λ h. inr (inr (inr (inr (tt, (fine-total (p ∷ ps) t m, h))))))
-
-more-rows : {A : Type 0} {some others : Rows} {room : ℕ} {v : Verdict A} → ((n p : ℕ) → some n p → others n p) → Keeps some room v → Keeps others room v
-more-rows f (gives h) = gives h
-more-rows f (refuses {r} t) = refuses (f (r .number) (r .place) t)
-
-pub box-keeps : (file : List ℕ) (kind instance room : ℕ) → Keeps (boxRows file kind instance room) room (boxBytes file kind instance room)
-unfolding boxBytes boxRows
-box-keeps file kind instance room = go (ending (walk file)) refl
+packets-judged [] room = told (refusal 4 0) (refl, (refl, refl)) (λ m q h. (h .0, h .1 .0))
+packets-judged (p ∷ ps) room =
+    passed (λ m q h. cons-nil (h .1 .1))
+    (failing-judged (agree (p .head) (p ∷ ps)) 5 _ λ e.
+    unless-judged (twiceAt (numbers (p ∷ ps))) 6 (firstTwice (numbers (p ∷ ps))) _ (smallest-twice (numbers (p ∷ ps))) (twice-both (numbers (p ∷ ps))) λ t.
+    unless-judged (missingAt (numbers (p ∷ ps))) 7 (missingFrom (length (numbers (p ∷ ps))) 1 (numbers (p ∷ ps))) _
+    (smallest-missing (numbers (p ∷ ps)) (length (numbers (p ∷ ps))) 1) (missing-both (numbers (p ∷ ps))) λ m.
+    need-judged (notFilled (p ∷ ps)) (eqb (total (p ∷ ps)) (contents (p .head))) 8 (total (p ∷ ps)) _ (λ f. (refl, f)) (λ q h. (h .1, h .0)) λ f.
+    fitting-judged room (total (p ∷ ps)) (joined (p ∷ ps)) (fine-total (p ∷ ps) t m))
   where
-    after : (r : Refusal) → ending (walk file) ≡ Refused r → (begins file ≡ true) ⊎ (begins file ≡ false) → boxRows file kind instance room (r .number) (r .place)
-    after r e (inl b) =
-        ⊎-elim (λ h. inr (inl h)) (λ h. inr (inr (inl h))) (walk-rows file (length file) 2 (omega arith) first r (sym (ap ending (walk-begun file b)) ∙ e))
-    after r e (inr b) =
-        let w : Refused (refusal 1 0) ≡ Refused r = sym (walk-not file b) ∙ e in
-        let same : refusal 1 0 ≡ r = cc in
-        subst (λ (x : Refusal). boxRows file kind instance room (x .number) (x .place)) same (inl (tt, refl))
+    cons-nil : p ∷ ps ≡ [] → ⊥
+    cons-nil e = let z : suc (length ps) ≡ 0 = ap length e in omega arith
 
-    go : (o : Outcome) → ending (walk file) ≡ o → Keeps (boxRows file kind instance room) room (afterWalk o (assemble room (mine kind instance (packets file))))
-    go (Given n) e = more-rows (λ n p h. inr (inr (inr h))) (packets-keep (mine kind instance (packets file)) room)
-    go (Refused r) e = refuses (after r e (either (begins file)))
+pub box-judged : (file : List ℕ) (kind instance room : ℕ) → Judged (boxRows file kind instance room) room (boxBytes file kind instance room)
+unfolding boxBytes boxRows
+box-judged file kind instance room = start (begins file) refl
+  where
+    walked : begins file ≡ true → (o : Outcome) → ending (stepsFrom file 2) ≡ o
+        → Judged (rows (2 ∷ 3 ∷ []) (brokenAt file) then packetRows (mine kind instance (packets file)) room) room (afterWalk o (assemble room (mine kind instance (packets file))))
+    walked b (Given n) e = passed (λ m q h. refused-given (sym e ∙ rows-walk file m q h)) (packets-judged (mine kind instance (packets file)) room)
+    walked b (Refused r) e = told r (walk-rows file (length file) 2 (omega arith) first r e) (λ m q h. refused-one (sym e ∙ rows-walk file m q h))
+
+    start : (b : Bool) → begins file ≡ b → Judged (row 1 (failing (begins file)) then rows (2 ∷ 3 ∷ []) (brokenAt file) then packetRows (mine kind instance (packets file)) room) room (afterWalk (ending (walk file)) (assemble room (mine kind instance (packets file))))
+    start true b =
+        passed (λ m q h. true-false (sym b ∙ h .1 .1))
+        (rw (walk-begun file b) (walked b (ending (stepsFrom file 2)) refl))
+    start false b = rw (walk-not file b) (told (refusal 1 0) (refl, (refl, b)) (λ m q h. (h .0, h .1 .0)))

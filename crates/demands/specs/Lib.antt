@@ -1,4 +1,6 @@
+pub mod Blocks
 pub mod One
 pub mod Two
 pub mod Three
 pub mod Cases
+pub mod Shams

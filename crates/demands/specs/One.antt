@@ -3,66 +3,68 @@
 use mathlib.Core.Path.{_≡_}
 use mathlib.Core.Logic.{_⊎_}
 use mathlib.Core.Bool.{Bool, true, false, cond}
-use mathlib.Core.List.{List, [], _∷_}
+use mathlib.Core.List.{List, [], _∷_, _++_}
+use mathlib.Core.Option.{none}
 use Prim.Native.Nat.{ℕ, _+_, _-_, _*_, _≤_, _<_}
-use lib.Dec.{T, eqb}
+use lib.Dec.{T, eqb, leb}
 use lib.IntN.{ℤ, pos}
 use lib.ListN.{length, getD, drop, replicate}
 use Rattle.listing_text.specs.Text.{listing, listPackets}
+use Rattle.laws.specs.Index.{every}
 use Rattle.laws.specs.declared.Found.the-variants.{Nothing}
 use Rattle.answers.specs.Verdict.{refusal, Meets}
 use Rattle.answers.specs.declared.Answer.{Answer}
 use Rattle.levels.specs.Level.{inside}
 use Rattle.levels.specs.declared.Part.the-variants.{Dc, Ac, Whole}
-use Rattle.codes.specs.Table.{Table}
+use Rattle.bits.specs.Source.{start}
+use Rattle.codes.specs.Table.{Table, goodTable}
 use Rattle.codes.specs.Write.{placeOf}
+use Rattle.planes.specs.Plane.{readable, writable}
 use Rattle.planes.specs.Dc.{readDc, dcBytes, writeDc}
-use Rattle.planes.specs.AcRead.{readAc}
-use Rattle.planes.specs.AcWrite.{acBytes, writeAc}
-use Rattle.packets.specs.Walk.{stepAt}
+use Rattle.planes.specs.AcRead.{cut, readAc}
+use Rattle.planes.specs.AcWrite.{Token, code, tokens, lacking, acBytes, writeAc}
+use Rattle.packets.specs.Walk.{stepAt, begins}
 use Rattle.packets.specs.declared.Head.{Head}
 use Rattle.packets.specs.declared.Step.the-variants.{Skip, Meet, Broken}
 use Rattle.packets.specs.Packets.{Packet, packets, mine}
 use Rattle.numbers.specs.Numbers.{numbers, count}
-use Rattle.boxes.specs.Box.{total, boxBytes}
+use Rattle.boxes.specs.Box.{agree, contents, total, boxBytes}
 use Rattle.transform.specs.Call.{isQuantiser, inverseTransform}
 use Rattle.rounding.specs.Near.{top}
 use Rattle.pixel.specs.declared.Setting.{Setting}
-use Rattle.settings.specs.Tests.{samples, entryRight}
+use Rattle.settings.specs.Tests.{inRanges, plain, srgbAllowed, samples, lengthsRight, entryRight}
 use Rattle.merge.specs.Picture.{merge}
+use Rattle.demands.specs.Blocks.{StopsAt, LeftOver, oneDc, oneAc}
 
--- ---- 01's table: which places may stand with a number
+-- ---- 01's table: which number with which place, and when
 
 abbrev pub Rows : Type 1
 Rows = ℕ → ℕ → Type 0
 
+-- a number, and what it means at a place
+abbrev pub row : ℕ → (ℕ → Type 0) → Rows
+row number means = λ n p. (n ≡ number) × means p
+
+-- numbers of one rank, met in the order in which the data are read
 abbrev pub stands : ℕ → List ℕ → Bool
 stands n [] = false
 stands n (x ∷ numbers) = cond (eqb n x) true (stands n numbers)
 
--- rows with these numbers, and what their place is
-abbrev pub rows : List ℕ → (ℕ → Type 0) → Rows
-rows numbers place = λ n p. T (stands n numbers) × place p
+abbrev pub rows : List ℕ → Rows → Rows
+rows numbers means = λ n p. T (stands n numbers) × means n p
 
-infixr 5 _or_
-abbrev pub _or_ : Rows → Rows → Rows
-_or_ some others = λ n p. some n p ⊎ others n p
+-- "A number is given exactly under its meaning and this order": a later row tells where no earlier one does
+infixr 5 _then_
+abbrev pub _then_ : Rows → Rows → Rows
+_then_ first later = λ n p. first n p ⊎ (((m q : ℕ) → first m q → ⊥) × later n p)
 
--- "0"
-abbrev pub nowhere : ℕ → Type 0
-nowhere p = p ≡ 0
+-- place "0": a test fails
+abbrev pub failing : Bool → ℕ → Type 0
+failing test p = (p ≡ 0) × (test ≡ false)
 
 -- "length needed", and there is no room for it
 abbrev pub needed : ℕ → ℕ → ℕ → Type 0
 needed n room p = (p ≡ n) × (room < p)
-
--- "block", one of those asked for
-abbrev pub someBlock : ℕ → ℕ → Type 0
-someBlock blocks p = p < blocks
-
--- "bytes read", of those lent
-abbrev pub readOf : List ℕ → ℕ → Type 0
-readOf bytes p = p ≤ length bytes
 
 -- "first index": the test fails there, and nowhere before
 pub record First (n : ℕ) (test : ℕ → Bool) (p : ℕ) : Type 0 where
@@ -81,12 +83,14 @@ pub record Succeeded {A : Type 0} (before after : List A) (answer : Answer) : Ty
 
 -- a row of the table, told by a number that is not 0, and "the whole lent destination is zeros"
 pub record Turned {A : Type 0} (zero : A) (table : Rows) (before after : List A) (answer : Answer) : Type 0 where
-  pub row : table (answer .number) (answer .place)
+  pub line : table (answer .number) (answer .place)
   pub told : answer .number ≡ 0 → ⊥
   pub zeros : after ≡ replicate (length before) zero
 
-abbrev pub Answered : {A : Type 0} → A → Rows → List A → List A → Answer → Type 0
-Answered zero table before after answer = Succeeded before after answer ⊎ Turned zero table before after answer
+-- what is answered, and that nothing else could be: whatever the rows tell is the answer
+pub record Answered {A : Type 0} (zero : A) (table : Rows) (before after : List A) (answer : Answer) : Type 0 where
+  pub outcome : Succeeded before after answer ⊎ Turned zero table before after answer
+  pub only : (n p : ℕ) → table n p → (answer .number ≡ n) × (answer .place ≡ p)
 
 -- ---- the rows of each call
 
@@ -96,7 +100,7 @@ pub data Reached (file : List ℕ) : ℕ → Type 0 where
   skipped : {at next : ℕ} → Reached file at → stepAt file at ≡ Skip next → Reached file next
   met : {at start len next : ℕ} {head : Head} → Reached file at → stepAt file at ≡ Meet head start len next → Reached file next
 
--- 2 "where it was to begin", 3 "where its segment begins"
+-- 2 "where it was to begin", 3 "where its segment begins": the walk comes by, and the step there is broken
 abbrev pub brokenAt : List ℕ → ℕ → ℕ → Type 0
 brokenAt file number p = Reached file p × (stepAt file p ≡ Broken (refusal number p))
 
@@ -108,63 +112,105 @@ twiceAt ns p = (1 < count p ns) × ((j : ℕ) → j < p → count j ns ≤ 1)
 abbrev pub missingAt : List ℕ → ℕ → Type 0
 missingAt ns p = (1 ≤ p) × (p < 1 + length ns) × (count p ns ≡ 0) × ((j : ℕ) → 1 ≤ j → j < p → 1 ≤ count j ns)
 
+-- 4 "no packet of this type and instance"
+abbrev pub nonePacket : List Packet → ℕ → Type 0
+nonePacket ps p = (p ≡ 0) × (ps ≡ [])
+
+-- 5 "packets disagree on LBox"
+abbrev pub agreed : List Packet → Bool
+agreed [] = true
+agreed (p ∷ ps) = agree (p .head) (p ∷ ps)
+
+-- 8 "payload total is not LBox-8": "the total"
+abbrev pub filled : List Packet → Bool
+filled [] = true
+filled (p ∷ ps) = eqb (total (p ∷ ps)) (contents (p .head))
+
+abbrev pub notFilled : List Packet → ℕ → Type 0
+notFilled ps p = (p ≡ total ps) × (filled ps ≡ false)
+
+-- "4 to 9 by number"
 unfoldable pub packetRows : List Packet → ℕ → Rows
 packetRows ps room =
-    rows (4 ∷ 5 ∷ []) nowhere
-    or rows (6 ∷ []) (twiceAt (numbers ps))
-    or rows (7 ∷ []) (missingAt (numbers ps))
-    or rows (8 ∷ []) (λ p. p ≡ total ps)
-    or rows (9 ∷ []) (needed (total ps) room)
+    row 4 (nonePacket ps)
+    then row 5 (failing (agreed ps))
+    then row 6 (twiceAt (numbers ps))
+    then row 7 (missingAt (numbers ps))
+    then row 8 (notFilled ps)
+    then row 9 (needed (total ps) room)
 
+-- "boxes, 1 to 3 over the whole walk (first met, 2 before 3 at one segment), then 4 to 9"
 unfoldable pub boxRows : List ℕ → ℕ → ℕ → ℕ → Rows
 boxRows file kind instance room =
-    rows (1 ∷ []) nowhere
-    or rows (2 ∷ []) (brokenAt file 2)
-    or rows (3 ∷ []) (brokenAt file 3)
-    or packetRows (mine kind instance (packets file)) room
+    row 1 (failing (begins file)) then rows (2 ∷ 3 ∷ []) (brokenAt file) then packetRows (mine kind instance (packets file)) room
 
+-- "Plane reading: 20, 21, 10, 11, 9, then 12 to 18 as the bits are met"
 unfoldable pub dcReadRows : ℕ → ℕ → List ℤ → List ℕ → ℕ → Rows
 dcReadRows plane blocks values bytes room =
-    rows (20 ∷ 21 ∷ []) nowhere
-    or rows (11 ∷ []) (First (length values) (inside Dc (plane - 1) values))
-    or rows (9 ∷ []) (needed blocks room)
-    or rows (12 ∷ 13 ∷ []) (someBlock blocks)
-    or rows (18 ∷ []) (readOf bytes)
+    row 20 (failing (every (readable plane blocks)))
+    then row 21 (failing (eqb (length values) blocks))
+    then row 11 (First (length values) (inside Dc (plane - 1) values))
+    then row 9 (needed blocks room)
+    then rows (12 ∷ 13 ∷ []) (StopsAt oneDc tt values (start bytes))
+    then row 18 (LeftOver oneDc tt values (start bytes))
 
-unfoldable pub acReadRows : ℕ → ℕ → List ℤ → List ℕ → ℕ → Rows
-acReadRows plane blocks values bytes room =
-    rows (20 ∷ 21 ∷ 10 ∷ []) nowhere
-    or rows (11 ∷ []) (First (length values) (inside Ac (plane - 1) values))
-    or rows (9 ∷ []) (needed (63 * blocks) room)
-    or rows (12 ∷ 13 ∷ 14 ∷ 15 ∷ 16 ∷ 17 ∷ []) (someBlock blocks)
-    or rows (18 ∷ []) (readOf bytes)
+unfoldable pub acReadRows : ℕ → ℕ → Table → List ℤ → List ℕ → ℕ → Rows
+acReadRows plane blocks codes values bytes room =
+    row 20 (failing (every (readable plane blocks)))
+    then row 21 (failing (eqb (length values) (63 * blocks)))
+    then row 10 (failing (goodTable codes))
+    then row 11 (First (length values) (inside Ac (plane - 1) values))
+    then row 9 (needed (63 * blocks) room)
+    then rows (12 ∷ 13 ∷ 14 ∷ 15 ∷ 16 ∷ 17 ∷ []) (StopsAt (oneAc codes) none (cut blocks values) (start bytes))
+    then row 18 (LeftOver (oneAc codes) none (cut blocks values) (start bytes))
 
 -- a listing has its text whatever the file: a walk's refusal, and 20 for a file over 64 KiB, stand in the text
 unfoldable pub listRows : List ℕ → ℕ → Rows
-listRows file room = rows (9 ∷ []) (needed (length (listing file)) room)
+listRows file room = row 9 (needed (length (listing file)) room)
 
-unfoldable pub dcWriteRows : ℕ → List ℤ → ℕ → Rows
-dcWriteRows plane values room =
-    rows (20 ∷ 21 ∷ []) nowhere or rows (11 ∷ []) (First (length values) (inside Dc plane values)) or rows (9 ∷ []) (needed (length (dcBytes values)) room)
+-- "Plane writing: 20, 21, 10, 11, 19 (first needed in writing order), 9"
+unfoldable pub dcWriteRows : ℕ → ℕ → List ℤ → ℕ → Rows
+dcWriteRows plane blocks values room =
+    row 20 (failing (every (writable plane blocks)))
+    then row 21 (failing (eqb (length values) blocks))
+    then row 11 (First (length values) (inside Dc plane values))
+    then row 9 (needed (length (dcBytes values)) room)
 
--- 19 "the code's value", which the table lacks
+-- 19 "the code's value": the table lacks it, and holds every code that is written before it
+pub record FirstLacking (codes : Table) (ts : List Token) (v : ℕ) : Type 0 where
+  pub earlier : List Token
+  pub later : List Token
+  pub written : ts ≡ earlier ++ (code v ∷ later)
+  pub lacks : placeOf v (codes .values) ≡ Nothing
+  pub held : lacking codes earlier ≡ Nothing
+
 unfoldable pub acWriteRows : ℕ → ℕ → Table → List ℤ → ℕ → Rows
 acWriteRows plane blocks codes values room =
-    rows (20 ∷ 21 ∷ 10 ∷ []) nowhere
-    or rows (11 ∷ []) (First (length values) (inside Ac plane values))
-    or rows (19 ∷ []) (λ p. placeOf p (codes .values) ≡ Nothing)
-    or rows (9 ∷ []) (needed (length (acBytes blocks codes values)) room)
+    row 20 (failing (every (writable plane blocks)))
+    then row 21 (failing (eqb (length values) (63 * blocks)))
+    then row 10 (failing (goodTable codes))
+    then row 11 (First (length values) (inside Ac plane values))
+    then row 19 (FirstLacking codes (tokens blocks values))
+    then row 9 (needed (length (acBytes blocks codes values)) room)
 
+-- "Transform: 20, 21, 22, 11, 9"
 unfoldable pub transformRows : ℕ → ℕ → List ℤ → List ℕ → ℕ → Rows
 transformRows refinement blocks values quantisers room =
-    rows (20 ∷ 21 ∷ []) nowhere
-    or rows (22 ∷ []) (First (length quantisers) (λ i. isQuantiser (getD quantisers i 0)))
-    or rows (11 ∷ []) (First (length values) (inside Whole refinement values))
-    or rows (9 ∷ []) (needed (blocks * 64) room)
+    row 20 (failing (every (leb refinement 4 ∷ leb blocks 1024 ∷ [])))
+    then row 21 (failing (every (eqb (length values) (blocks * 64) ∷ eqb (length quantisers) 64 ∷ [])))
+    then row 22 (First (length quantisers) (λ i. isQuantiser (getD quantisers i 0)))
+    then row 11 (First (length values) (inside Whole refinement values))
+    then row 9 (needed (blocks * 64) room)
 
-unfoldable pub mergeRows : Setting → ℕ → List ℕ → ℕ → Rows
-mergeRows s pixels table room =
-    rows (20 ∷ 21 ∷ []) nowhere or rows (11 ∷ []) (First (length table) (entryRight (top (s .rb)) table)) or rows (9 ∷ []) (needed (samples s pixels) room)
+-- "Merge: 20, 21, 11, 9"
+unfoldable pub mergeRows : Setting → ℕ → List ℤ → List ℤ → List ℕ → ℕ → Rows
+mergeRows s pixels base residual table room =
+    row 20 (failing (inRanges s pixels))
+    then row 20 (failing (plain s))
+    then row 20 (failing (srgbAllowed s))
+    then row 21 (failing (lengthsRight s pixels base residual table))
+    then row 11 (First (length table) (entryRight (top (s .rb)) table))
+    then row 9 (needed (samples s pixels) room)
 
 -- ---- the demand: whatever is lent, a call that meets its promise has answered so
 
@@ -180,10 +226,10 @@ pub record DemandOne : Type 0 where
       → Answered (pos 0) (dcReadRows plane blocks values bytes (length before)) before after answer
   pub acRead : (plane blocks : ℕ) (codes : Table) (values : List ℤ) (bytes : List ℕ) (before after : List ℤ) (answer : Answer)
       → Meets (pos 0) (readAc plane blocks codes values bytes (length before)) before after answer
-      → Answered (pos 0) (acReadRows plane blocks values bytes (length before)) before after answer
+      → Answered (pos 0) (acReadRows plane blocks codes values bytes (length before)) before after answer
   pub dcWrite : (plane blocks : ℕ) (values : List ℤ) (before after : List ℕ) (answer : Answer)
       → Meets 0 (writeDc plane blocks values (length before)) before after answer
-      → Answered 0 (dcWriteRows plane values (length before)) before after answer
+      → Answered 0 (dcWriteRows plane blocks values (length before)) before after answer
   pub acWrite : (plane blocks : ℕ) (codes : Table) (values : List ℤ) (before after : List ℕ) (answer : Answer)
       → Meets 0 (writeAc plane blocks codes values (length before)) before after answer
       → Answered 0 (acWriteRows plane blocks codes values (length before)) before after answer
@@ -192,4 +238,4 @@ pub record DemandOne : Type 0 where
       → Answered (pos 0) (transformRows refinement blocks values quantisers (length before)) before after answer
   pub merges : (s : Setting) (pixels : ℕ) (base residual : List ℤ) (table : List ℕ) (before after : List ℕ) (answer : Answer)
       → Meets 0 (merge s pixels base residual table (length before)) before after answer
-      → Answered 0 (mergeRows s pixels table (length before)) before after answer
+      → Answered 0 (mergeRows s pixels base residual table (length before)) before after answer
