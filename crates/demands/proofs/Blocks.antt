@@ -50,7 +50,6 @@ module _ {A B : Type 0} (one : A → B → List B → Source → Out A) (end : �
     (nil : (k : ℕ) (o : A) (s : Source) → end k o [] s ≡ over s)
     (cons : (k : ℕ) (o : A) (b : B) (bs : List B) (s : Source) → end k o (b ∷ bs) s ≡ went k (λ o′ t. end (suc k) o′ bs t) (one o b bs s))
     (o₀ : A) (bs₀ : List B) (s₀ : Source) where
-
   alike : {p : ℕ} {o : A} {bs : List B} {s : Source} → Behind one o₀ bs₀ s₀ p o bs s → end p o bs s ≡ end 0 o₀ bs₀ s₀
   alike begun = refl
   alike (further {p} {o} {o′} {b} {bs} {s} {t} h e) = sym (cons p o b bs s ∙ ap (went p (λ o′ t. end (suc p) o′ bs t)) e) ∙ alike h
