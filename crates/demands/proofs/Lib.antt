@@ -5,6 +5,7 @@ pub mod Walked
 pub mod One
 pub mod Two
 pub mod Values
+pub mod Planes
 pub mod Held
 pub mod Three
 pub mod Cases

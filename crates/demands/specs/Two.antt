@@ -1,8 +1,8 @@
 -- Demand 2: box bytes, refined coefficients, samples and merged results are those of 01. A call hands out values exactly where 01 does, and
 -- then it has written 01's values.
 use mathlib.Core.Path.{_≡_}
-use mathlib.Core.Bool.{true}
-use mathlib.Core.List.{List, [], _∷_}
+use mathlib.Core.Bool.{Bool, true, false}
+use mathlib.Core.List.{List, [], _∷_, _++_}
 use mathlib.Core.Option.{none}
 use Prim.Native.Nat.{ℕ, _+_, _-_, _*_, _^_, _≤_, _<_}
 use lib.Dec.{leb, eqb}
@@ -17,12 +17,14 @@ use Rattle.answers.specs.Verdict.{Meets}
 use Rattle.answers.specs.declared.Answer.{Answer}
 use Rattle.levels.specs.Level.{firstOutside}
 use Rattle.levels.specs.declared.Part.the-variants.{Dc, Ac, Whole}
+use Rattle.bits.specs.Digits.{bin, digits}
 use Rattle.bits.specs.Source.{Source, start, onlyPadding}
 use Rattle.codes.specs.Table.{Table, goodTable}
 use Rattle.planes.specs.Plane.{readable, writable, read}
 use Rattle.planes.specs.Dc.{dcBlocks, readDc, dcBytes, writeDc}
 use Rattle.planes.specs.AcRead.{cut, acBlocks, readAc}
 use Rattle.planes.specs.AcWrite.{tokens, lacking, acBytes, writeAc}
+use Rattle.planes.specs.Levels.{towardZero}
 use Rattle.boxes.specs.Box.{boxBytes}
 use Rattle.boxes.specs.Order.{HandedOut}
 use Rattle.kernel.specs.Cosines.{kernel}
@@ -134,6 +136,29 @@ pub record DemandTwo : Type 0 where
       → Exactly (Merged s pixels base residual table (length before)) after answer
 
 -- ---- the same value by value
+
+-- the bytes that carry bits: "an FF data byte is followed by 00, which carries no bits"
+unfoldable pub carrying : Bool → List ℕ → List ℕ
+carrying behindFF [] = []
+carrying true (byte ∷ bytes) = carrying false bytes
+carrying false (byte ∷ bytes) = byte ∷ carrying (eqb byte 255) bytes
+
+-- "Bits are taken from the highest of each byte"
+unfoldable pub allBits : List ℕ → List Bool
+allBits [] = []
+allBits (byte ∷ bytes) = digits 8 byte ++ allBits bytes
+
+-- "A DC plane is one bit per block: new DC = 2c + bit"
+abbrev pub DcValuesAre : Type 0
+DcValuesAre =
+    (plane blocks : ℕ) (values : List ℤ) (bytes : List ℕ) (room : ℕ) (ys : List ℤ) → DcRefined plane blocks values bytes room ys
+    → (b : ℕ) → b < blocks → getD ys b (pos 0) ≡ pos 2 *ℤ getD values b (pos 0) +ℤ pos (bin (getD (allBits (carrying false bytes)) b false))
+
+-- "A corrected value c becomes 2c, moved one away from zero if the bit is 1", and a zero stays or becomes +1 or -1: that is, half of the new value, toward zero, is the old one
+abbrev pub AcValuesAre : Type 0
+AcValuesAre =
+    (plane blocks : ℕ) (codes : Table) (values : List ℤ) (bytes : List ℕ) (room : ℕ) (ys : List ℤ) → AcRefined plane blocks codes values bytes room ys
+    → (i : ℕ) → i < 63 * blocks → towardZero 1 (getD ys i (pos 0)) ≡ getD values i (pos 0)
 
 -- "floor((sum of K(x,u) K(y,v) S + 2^27) / 2^28) + 2^(7+R)", S being "the value times its quantiser", both "in zigzag order"
 abbrev pub sampleAt : ℕ → List ℤ → List ℕ → ℕ → ℕ → ℕ → ℤ
