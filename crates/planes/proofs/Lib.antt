@@ -5,5 +5,7 @@ pub mod DcWriting
 pub mod Levels
 pub mod DcTrip
 pub mod Cases
+pub mod ReadCases
+pub mod WriteCases
 pub mod AcTokens
 pub mod AcTrip
