@@ -1,4 +1,5 @@
 pub mod Taking
 pub mod Putting
+pub mod Gathering
 pub mod Trip
 pub mod Held
