@@ -1,3 +1,4 @@
+pub mod Cases
 pub mod Taking
 pub mod Putting
 pub mod Gathering
