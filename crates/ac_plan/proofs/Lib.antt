@@ -1,3 +1,4 @@
+pub mod Cases
 pub mod KindTests
 pub mod Looking
 pub mod Tasks

@@ -14,7 +14,7 @@ use Rattle.bits.specs.Digits.{digits}
 use Rattle.codes.specs.Table.{Table, goodTable}
 use Rattle.codes.specs.Write.{placeOf, codeAt, codeOf, word}
 use Rattle.codes.proofs.Laws.{good}
-use Rattle.codes.proofs.Trip.{digits-length}
+use Rattle.bits.proofs.Gathering.{digits-length}
 use Rattle.planes.specs.Task.{Task, walk, ended}
 use Rattle.planes.specs.AcRead.{cut}
 use Rattle.planes.specs.AcWrite.{Kind, keep, still, fresh, kindOf, code, raw, emit, class, choose, tell, mark, after, writeBlock, writeBlocks, tokens, spelled}

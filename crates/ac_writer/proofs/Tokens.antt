@@ -1,17 +1,19 @@
 -- Laws of tokens told one after another: what is put and what the table lacks. Assumes nothing.
 use mathlib.Core.Path.{_≡_, refl, sym, ap, subst, _∙_}
-use mathlib.Core.Bool.{Bool}
+use mathlib.Core.Bool.{Bool, true, false, true≢false}
 use mathlib.Core.List.{List, [], _∷_, _++_, append-assoc, append-nil, map}
-use Prim.Native.Nat.{ℕ, suc, _+_, _*_}
+use Prim.Native.Nat.{ℕ, suc, _+_, _*_, _/_, _%_}
 use native.Mathlib.Numerals.{add-one}
 use native.Mathlib.Omega.{arith}
+use borrow.Author.Tests.{eq-eqb, ne-eqb}
 use Rattle.laws.specs.declared.Found.{Found}
 use Rattle.laws.specs.declared.Found.the-variants.{At, Nothing}
 use Rattle.bits.specs.Code.{Sound, Puts}
 use Rattle.bits.specs.Digits.{digits}
 use Rattle.bits.proofs.Putting.{puts-none, puts-then, Going, going-start, going-turn, going-end}
 use Rattle.codes.specs.Table.{Table}
-use Rattle.codes.specs.Write.{placeOf, codeAt, word}
+use Rattle.codes.specs.Write.{placeOf, codeOf, word}
+use Rattle.codes.specs.Code.{absent, Entered}
 use Rattle.planes.specs.Task.{ended}
 use Rattle.planes.specs.AcWrite.{Token, code, raw, class, emit, orElse, lacking, spelled}
 use Rattle.ac_writer.specs.Telling.{firstOf, Told}
@@ -75,23 +77,32 @@ module _ {T : Table} where
   told-bits {p = p} bits f e =
       record { put = rw (spelled-raw T bits) f; lack = e ∙ sym (first-none (p .lack)) ∙ ap (firstOf (p .lack)) (sym (missing-raw T bits)) }
 
--- ---- one code
+-- ---- one code, by its entry
 
-module _ (T : Table) {before after : List ℕ} {p r : Pen} (v : ℕ) where
+else-held : (v : ℕ) (f : Found) → absent f ≡ false → orElse v f Nothing ≡ Nothing
+else-held v (At k) e = refl
+else-held v Nothing e = absurd (true≢false e)
+
+else-lacked : (v : ℕ) (f : Found) → absent f ≡ true → orElse v f Nothing ≡ At v
+else-lacked v (At k) e = absurd (true≢false (sym e))
+else-lacked v Nothing e = refl
+
+module _ (T : Table) {before after : List ℕ} {p r : Pen} {v entry : ℕ} (e : Entered (T .counts) (placeOf v (T .values)) entry) where
   -- the table holds it
-  pub told-held : {k : ℕ} → placeOf v (T .values) ≡ At k → Puts before after (p .putter) (r .putter) (codeAt (T .counts) 0 1 k) → r .lack ≡ p .lack
-      → Told T before after p r (code v ∷ [])
+  pub told-held : (entry ≡ 0 → ⊥) → Puts before after (p .putter) (r .putter) (digits (entry % 32) (entry / 32)) → r .lack ≡ p .lack → Told T before after p r (code v ∷ [])
   unfolding spelled lacking word
-  told-held {k} e f q = record {
-    put = rw (e, append-nil (codeAt (T .counts) 0 1 k)) f;
-    lack = rw e (q ∙ sym (first-none (p .lack)));
+  told-held n f q = record {
+    put = rw (append-nil (codeOf (T .counts) (placeOf v (T .values))), ← (e .same)) f;
+    lack = rw (else-held v (placeOf v (T .values)) (sym (e .none) ∙ ne-eqb entry 0 n)) (q ∙ sym (first-none (p .lack)));
   }
 
   -- or lacks it
-  pub told-lacked : placeOf v (T .values) ≡ Nothing → Puts before after (p .putter) (r .putter) [] → r .lack ≡ firstOf (p .lack) (At v)
-      → Told T before after p r (code v ∷ [])
-  unfolding spelled lacking word
-  told-lacked e f q = record { put = rw e f; lack = rw e q }
+  pub told-lacked : entry ≡ 0 → Puts before after (p .putter) (r .putter) [] → r .lack ≡ firstOf (p .lack) (At v) → Told T before after p r (code v ∷ [])
+  unfolding spelled lacking word digits
+  told-lacked z f q = record {
+    put = rw (append-nil (codeOf (T .counts) (placeOf v (T .values))), ← (rw z at (e .same))) f;
+    lack = rw (else-lacked v (placeOf v (T .values)) (sym (e .none) ∙ eq-eqb entry 0 z)) q;
+  }
 
 -- ---- an end run: its code, then the bits
 

@@ -1,6 +1,6 @@
 -- What the code's pen and state stand for, and what it means that tokens were told.
 use mathlib.Core.Path.{_≡_}
-use mathlib.Core.Bool.{Bool}
+use mathlib.Core.Bool.{Bool, true}
 use mathlib.Core.List.{List, _++_, map}
 use mathlib.Core.Option.{Option, some}
 use Prim.Native.Nat.{ℕ, _+_, _^_, _≤_, _<_}
@@ -10,7 +10,8 @@ use Rattle.laws.specs.declared.Found.{Found}
 use Rattle.laws.specs.declared.Found.the-variants.{At, Nothing}
 use Rattle.bits.specs.Code.{Sound, Puts}
 use Rattle.bits.proofs.Putting.{fresh}
-use Rattle.codes.specs.Table.{Table}
+use Rattle.codes.specs.Table.{Table, goodTable}
+use Rattle.codes.specs.Code.{Entries}
 use Rattle.planes.specs.Task.{Task}
 use Rattle.planes.specs.AcWrite.{Kind, Token, raw, choose, tell, writeBlock, lacking, spelled}
 use Rattle.ac_plan.specs.Plan.{kindsFrom}
@@ -34,6 +35,16 @@ newPen = record { putter = fresh; lack = Nothing }
 pub record PenReady (p : Pen) : Type 0 where
   pub sound : Sound (p .putter)
   pub near : p .putter .at < 2 ^ 60
+
+-- the entries of a good table
+pub record Coded (T : Table) (entries : List ℕ) : Type 0 where
+  pub good : goodTable T ≡ true
+  pub codes : Entries T entries
+
+-- the entries of some table
+pub record Known (entries : List ℕ) : Type 0 where
+  pub table : Table
+  pub coded : Coded table entries
 
 -- the bits of these tokens were put, and the first code that the table lacks is kept
 pub record Told (T : Table) (before after : List ℕ) (p r : Pen) (tokens : List Token) : Type 0 where

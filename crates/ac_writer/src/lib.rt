@@ -13,7 +13,7 @@ ghost use Rattle.planes.specs.Task as task;
 ghost use Rattle.planes.specs.AcWrite as written;
 ghost use Rattle.ac_tasks.specs.Code.{taskOf, openOf};
 ghost use Rattle.ac_plan.specs.Plan.{kindsFrom, kindBlocks, Short};
-ghost use Rattle.ac_writer.specs.Telling.{firstOf, newPen, PenReady, Told, Begins, Carries, Works, Moves};
+ghost use Rattle.ac_writer.specs.Telling.{firstOf, newPen, PenReady, Coded, Known, Told, Begins, Carries, Works, Moves};
 ghost use mathlib.Core.Option.{Option, none, some};
 use ac_plan::Change;
 use ac_tasks::Job;
@@ -78,26 +78,24 @@ fn or_lacking(lack: Found, value: u8) -> Found
 }
 
 // A code, or that the table lacks it.
-fn tell_code(destination: &mut [u8], counts: &[u8], codes: &[u8], pen: Pen, value: u8) -> Pen
+fn tell_code(destination: &mut [u8], entries: &[u32; 256], pen: Pen, value: u8) -> Pen
     requires { ⌜ PenReady pen ⌝ }
-    requires { ⌜ goodTable (table (now counts) (now codes)) ≡ true ⌝ }
-    ensures { λ r. ⌜ Told (table (now (counts .entry)) (now (codes .entry))) (now (destination .entry)) (now (destination .exit)) pen r (written.code value ∷ []) ⌝ }
+    requires { ⌜ Known (now entries) ⌝ }
+    ensures { λ r. ⌜ ((T : Table) → Coded T (now (entries .entry)) → Told T (now (destination .entry)) (now (destination .exit)) pen r (written.code value ∷ [])) ⌝ }
 {
     let p = pen.putter;
     let lack = pen.lack;
-    match codes::place_of(value, codes) {
-        Found::At(place) => {
-            let putter = codes::put_code(destination, p, counts, codes, place);
-            Pen { putter, lack }
-        }
-        Found::Nothing => {
-            let first = or_lacking(lack, value);
-            Pen {
-                putter: p,
-                lack: first,
-            }
-        }
+    let at = value as usize;
+    let entry = entries[at];
+    if entry == 0 {
+        let first = or_lacking(lack, value);
+        return Pen {
+            putter: p,
+            lack: first,
+        };
     }
+    let putter = bits::put_digits(destination, p, (entry % 32) as usize, entry / 32);
+    Pen { putter, lack }
 }
 
 // A bit.
@@ -128,32 +126,32 @@ fn class_of(n: usize) -> usize
 }
 
 // "a run of 2^r + e blocks": its code, then the r low bits.
-fn tell_run(destination: &mut [u8], counts: &[u8], codes: &[u8], pen: Pen, n: usize) -> Pen
+fn tell_run(destination: &mut [u8], entries: &[u32; 256], pen: Pen, n: usize) -> Pen
     requires { ⌜ PenReady pen ⌝ }
-    requires { ⌜ (goodTable (table (now counts) (now codes)) ≡ true) × (n ≤ 1024) ⌝ }
-    ensures { λ r. ⌜ Told (table (now (counts .entry)) (now (codes .entry))) (now (destination .entry)) (now (destination .exit)) pen r (written.emit (ended n)) ⌝ }
+    requires { ⌜ Known (now entries) × (n ≤ 1024) ⌝ }
+    ensures { λ r. ⌜ ((T : Table) → Coded T (now (entries .entry)) → Told T (now (destination .entry)) (now (destination .exit)) pen r (written.emit (ended n))) ⌝ }
 {
     let r = class_of(n + 1);
-    let q = tell_code(destination, counts, codes, pen, (16 * r) as u8);
+    let q = tell_code(destination, entries, pen, (16 * r) as u8);
     let p = q.putter;
     let lack = q.lack;
-    let putter = codes::put_digits(destination, p, r, (n + 1) as u32);
+    let putter = bits::put_digits(destination, p, r, (n + 1) as u32);
     Pen { putter, lack }
 }
 
 // The code that tells a task, and the bits behind it.
-fn emit(destination: &mut [u8], counts: &[u8], codes: &[u8], pen: Pen, job: Job) -> Pen
+fn emit(destination: &mut [u8], entries: &[u32; 256], pen: Pen, job: Job) -> Pen
     requires { ⌜ PenReady pen ⌝ }
-    requires { ⌜ (goodTable (table (now counts) (now codes)) ≡ true) × Short job ⌝ }
-    ensures { λ r. ⌜ Told (table (now (counts .entry)) (now (codes .entry))) (now (destination .entry)) (now (destination .exit)) pen r (written.emit (taskOf job)) ⌝ }
+    requires { ⌜ Known (now entries) × Short job ⌝ }
+    ensures { λ r. ⌜ ((T : Table) → Coded T (now (entries .entry)) → Told T (now (destination .entry)) (now (destination .exit)) pen r (written.emit (taskOf job))) ⌝ }
 {
     match job {
-        Job::Leave(n) => tell_code(destination, counts, codes, pen, (16 * n) as u8),
+        Job::Leave(n) => tell_code(destination, entries, pen, (16 * n) as u8),
         Job::Set(n, positive) => {
-            let q = tell_code(destination, counts, codes, pen, (16 * n + 1) as u8);
+            let q = tell_code(destination, entries, pen, (16 * n + 1) as u8);
             tell_bit(destination, q, positive)
         }
-        Job::Ended(n) => tell_run(destination, counts, codes, pen, n),
+        Job::Ended(n) => tell_run(destination, entries, pen, n),
     }
 }
 
@@ -247,8 +245,7 @@ fn do_job(destination: &mut [u8], pen: Pen, job: Job, from: usize, block: &[i32]
 // The task at a position, told if none is open.
 fn begin(
     destination: &mut [u8],
-    counts: &[u8],
-    codes: &[u8],
+    entries: &[u32; 256],
     state: State,
     block: &[i32],
     i: usize,
@@ -256,9 +253,9 @@ fn begin(
     blocks: usize,
 ) -> Begun
     requires { ⌜ PenReady (state .pen) ⌝ }
-    requires { ⌜ goodTable (table (now counts) (now codes)) ≡ true ⌝ }
+    requires { ⌜ Known (now entries) ⌝ }
     requires { ⌜ (length (now later) ≡ 63 * blocks) × (blocks ≤ 1024) ⌝ }
-    ensures { λ r. ⌜ Begins (table (now (counts .entry)) (now (codes .entry))) (now (destination .entry)) (now (destination .exit)) state r (kindsFrom (now (block .entry)) i) (kindBlocks blocks (now (later .entry))) ⌝ }
+    ensures { λ r. ⌜ ((T : Table) → Coded T (now (entries .entry)) → Begins T (now (destination .entry)) (now (destination .exit)) state r (kindsFrom (now (block .entry)) i) (kindBlocks blocks (now (later .entry)))) ⌝ }
 {
     let pen = state.pen;
     let task = state.task;
@@ -266,7 +263,7 @@ fn begin(
         Open::Doing(job) => Begun { pen, job },
         Open::Nothing => {
             let job = ac_plan::plan(block, i, later, blocks);
-            let told = emit(destination, counts, codes, pen, job);
+            let told = emit(destination, entries, pen, job);
             Begun { pen: told, job }
         }
     }
@@ -275,22 +272,21 @@ fn begin(
 // A block: its tasks in order.
 fn put_block(
     destination: &mut [u8],
-    counts: &[u8],
-    codes: &[u8],
+    entries: &[u32; 256],
     state: State,
     block: &[i32],
     later: &[i32],
     blocks: usize,
 ) -> State
     requires { ⌜ (Sound (state .pen .putter)) × (state .pen .putter .at < 2 ^ 59) ⌝ }
-    requires { ⌜ (goodTable (table (now counts) (now codes)) ≡ true) × (length (now block) ≤ 63) ⌝ }
+    requires { ⌜ Known (now entries) × (length (now block) ≤ 63) ⌝ }
     requires { ⌜ (length (now later) ≡ 63 * blocks) × (blocks ≤ 1024) ⌝ }
-    ensures { λ r. ⌜ Moves (table (now (counts .entry)) (now (codes .entry))) (now (destination .entry)) (now (destination .exit)) state r (written.writeBlock (openOf (state .task)) (kindsFrom (now (block .entry)) 0) (kindBlocks blocks (now (later .entry)))) ⌝ }
+    ensures { λ r. ⌜ ((T : Table) → Coded T (now (entries .entry)) → Moves T (now (destination .entry)) (now (destination .exit)) state r (written.writeBlock (openOf (state .task)) (kindsFrom (now (block .entry)) 0) (kindBlocks blocks (now (later .entry))))) ⌝ }
 {
     let mut s = state;
     let mut i = 0;
     while i < block.len() {
-        let b = begin(destination, counts, codes, s, block, i, later, blocks);
+        let b = begin(destination, entries, s, block, i, later, blocks);
         let told = b.pen;
         let job = b.job;
         let m = do_job(destination, told, job, i, block);
@@ -333,6 +329,7 @@ fn put_blocks(
         pen,
         task: Open::Nothing,
     };
+    let entries = codes::code_table(counts, codes);
     let mut n = 0;
     while n < blocks {
         let at = 63 * n;
@@ -340,8 +337,7 @@ fn put_blocks(
         let left = blocks - (n + 1);
         s = put_block(
             destination,
-            counts,
-            codes,
+            &entries,
             s,
             &values[at..end],
             &values[end..],

@@ -41,7 +41,7 @@ stuffed-split byte rest = go (eqb byte 255)
     go true = refl
     go false = refl
 
-stuffed-short : (byte : ℕ) → length (stuffed byte []) ≤ 2
+pub stuffed-short : (byte : ℕ) → length (stuffed byte []) ≤ 2
 unfolding stuffed
 stuffed-short byte = go (eqb byte 255)
   where
@@ -49,9 +49,18 @@ stuffed-short byte = go (eqb byte 255)
     go true = omega arith
     go false = omega arith
 
+-- memory and count behind these bytes, and that a byte was put before the others
+abbrev pub laid : List ℕ → ℕ → List ℕ → Written
+laid memory at bytes = record { memory = sets memory at bytes; count = at + length bytes }
+
+pub byte-laid : (before : List ℕ) {after : List ℕ} (at : ℕ) {next : ℕ} (byte : ℕ) (rest : List ℕ) → after ≡ sets before at (stuffed byte []) → next ≡ at + length (stuffed byte [])
+    → laid after next rest ≡ laid before at (stuffed byte rest)
+byte-laid before {after} at {next} byte rest m e =
+    sym (rw (stuffed-split byte rest, sets-append before at (stuffed byte []) rest, length-append, ← m, e) (ap₂ (λ (x : List ℕ) (n : ℕ). record { memory = x; count = n }) refl (omega arith)))
+
 -- ---- the code's shift and join
 
-small-held : (p : Putter) → Sound p → p .held < 128
+pub small-held : (p : Putter) → Sound p → p .held < 128
 small-held p s = let h : 2 ^ (7 - p .room) ≤ 2 ^ 7 = pow-mono {i = 7 - p .room} {j = 7} (omega arith) in omega (arith, s .held)
 
 bin-small : (b : Bool) → bin b < 2
@@ -69,7 +78,7 @@ module _ {before : List ℕ} {p : Putter} (s : Sound p) (b : Bool) where
       → at ≡ p .at + length (stuffed (2 * p .held + bin b) []) → Puts before after p (record { at = at; held = 0; room = 7 }) (b ∷ [])
   unfolding finishing packed
   put-full {after} {at} z m e = record {
-    same = λ more. sym (rw (z, stuffed-split (2 * p .held + bin b) (packed 0 7 more), sets-append before (p .at) (stuffed (2 * p .held + bin b) []) (packed 0 7 more), length-append, ← m, e) (ap₂ (λ (x : List ℕ) (n : ℕ). record { memory = x; count = n }) refl (omega arith)));
+    same = λ more. rw z (byte-laid before (p .at) (2 * p .held + bin b) (packed 0 7 more) m e);
     sound = record { room = omega arith; held = omega arith };
     near = rw e (omega (arith, stuffed-short (2 * p .held + bin b)));
   }
@@ -79,7 +88,7 @@ module _ {before : List ℕ} {p : Putter} (s : Sound p) (b : Bool) where
       → Puts before before p (record { at = p .at; held = v; room = room }) (b ∷ [])
   unfolding finishing packed
   put-held {v} {room} nz e q = record {
-    same = λ more. sym (ap (λ (l : List ℕ). record { memory = sets before (p .at) l; count = p .at + length l }) (step more));
+    same = λ more. sym (ap (laid before (p .at)) (step more));
     sound = record { room = omega (arith, s .room); held = rw (e, q) (omega (arith, s .held, bin-small b, powers)) };
     near = omega arith;
   }

@@ -3,10 +3,11 @@ pub mod reader;
 
 ghost use mathlib.Core.Path.{_≡_};
 ghost use mathlib.Core.List.{[], _∷_};
-ghost use Prim.Native.Nat.{_+_, _-_, _^_, _≤_, _<_};
+ghost use Prim.Native.Nat.{_+_, _-_, _*_, _%_, _^_, _≤_, _<_};
 ghost use lib.ListN.{set, length};
 ghost use lib.Seq.{sets};
 ghost use Rattle.laws.specs.Index.{every};
+ghost use Rattle.bits.specs.Digits.{digits};
 ghost use Rattle.bits.specs.Source.{takeBit, onlyPadding};
 ghost use Rattle.bits.specs.Pack.{stuffed, padded};
 ghost use Rattle.bits.specs.Code.{sourceOf, takenOf, topOf, highs, Sound, Puts, Ends};
@@ -145,6 +146,42 @@ pub fn put_bit(destination: &mut [u8], p: Putter, bit: bool) -> Putter
         at: p.at,
         held,
         room: room - 1,
+    }
+}
+
+// The n low bits of a number.
+fn low(number: u32, n: usize) -> u32
+    requires { ⌜ n ≤ 16 ⌝ }
+    ensures { λ r. ⌜ (r ≡ number % 2 ^ n) × (r < 2 ^ n) ⌝ }
+{
+    number & ((1 << n) - 1)
+}
+
+// The bits in hand and the low bits of a number, as one number.
+fn gathered(held: u8, size: usize, number: u32) -> u32
+    requires { ⌜ (held < 128) × (size ≤ 16) ⌝ }
+    ensures { λ r. ⌜ r ≡ held * 2 ^ size + number % 2 ^ size ⌝ }
+{
+    ((held as u32) << size) | low(number, size)
+}
+
+// The bits of a number, the highest first: whole bytes of the bits in hand and these, then what is left of them in hand.
+pub fn put_digits(destination: &mut [u8], p: Putter, size: usize, number: u32) -> Putter
+    requires { ⌜ Sound p ⌝ }
+    requires { ⌜ (p .at < 2 ^ 61) × (size ≤ 16) ⌝ }
+    ensures { λ r. ⌜ Puts (now (destination .entry)) (now (destination .exit)) p r (digits size number) ⌝ }
+{
+    let all = gathered(p.held, size, number);
+    let mut at = p.at;
+    let mut count = 7 - (p.room as usize) + size;
+    while 8 <= count {
+        count -= 8;
+        at = put_byte(destination, at, low(all >> count, 8) as u8);
+    }
+    Putter {
+        at,
+        held: low(all, count) as u8,
+        room: 7 - (count as u8),
     }
 }
 

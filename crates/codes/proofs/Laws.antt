@@ -101,6 +101,7 @@ pub record Good (T : Table) : Type 0 where
   pub bytes : length (T .values) ≤ 256
   pub all : codeCount (T .counts) ≡ length (T .values)
   pub room : kraft (T .counts) ≤ 65535
+  pub apart : distinct (T .values) ≡ true
 
 pub good : (T : Table) → goodTable T ≡ true → Good T
 unfolding goodTable
@@ -109,12 +110,14 @@ good T e =
     let e2 = every-rest _ _ e1 in
     let e3 = every-rest _ _ e2 in
     let e4 = every-rest _ _ e3 in
+    let e5 = every-rest _ _ e4 in
     record {
       sixteen = eqb-true (length (T .counts)) 16 (every-first _ _ e);
       some = leb-true 1 (length (T .values)) (every-first _ _ e1);
       bytes = leb-true (length (T .values)) 256 (every-first _ _ e2);
       all = eqb-true (codeCount (T .counts)) (length (T .values)) (every-first _ _ e3);
       room = leb-true (kraft (T .counts)) 65535 (every-first _ _ e4);
+      apart = every-first _ _ e5;
     }
 
 pub weigh-start : (ns : List ℕ) → length ns ≡ 16 → Weighed ns 0 32768 0

@@ -1,3 +1,5 @@
+pub mod Cases
 pub mod Laws
 pub mod Reading
 pub mod Trip
+pub mod Entering

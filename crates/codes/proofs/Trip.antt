@@ -2,37 +2,27 @@
 use mathlib.Core.Path.{_≡_, refl, sym, ap, subst, _∙_}
 use mathlib.Core.List.{List, [], _∷_, _++_, append-nil}
 use mathlib.Core.Bool.{Bool, true, false, cond, not}
-use Prim.Native.Nat.{ℕ, zero, suc, _+_, _-_, _*_, _/_, _%_, _^_, _≤_, _<_}
+use Prim.Native.Nat.{ℕ, zero, suc, _+_, _-_, _*_, _/_, _^_, _≤_, _<_}
 use native.Mathlib.Omega.{arith}
-use native.Mathlib.Numerals.{add-one, sub-one}
+use native.Mathlib.Numerals.{add-one}
 use native.Mathlib.Nat.{pow-suc, div-div-eq-div-mul, mul-assoc, mul-comm, add-mul, le-of-mul-le-mul-right}
 use lib.Pow.{pow-pos, pow-mono}
-use lib.Bits.{bitAnd, and-mask}
 use lib.Dec.{eqb, ltb}
 use lib.ListN.{length, getD, drop}
 use lib.Seq.{getD-drop, drop-cons}
-use borrow.Author.Tests.{ltb-true, ltb-false, lt-ltb, le-ltb, eqb-true, eqb-false, not-false}
+use borrow.Author.Tests.{ltb-true, ltb-false, lt-ltb, le-ltb, eqb-true, not-false}
 use Rattle.laws.specs.declared.Found.the-variants.{At}
 use Rattle.laws.proofs.First.{first-at}
 use Rattle.bits.specs.Digits.{bin, odd, digits}
 use Rattle.bits.specs.Source.{Source, source, got}
 use Rattle.bits.specs.Gives.{Gives}
 use Rattle.bits.proofs.Trip.{in-hand, gives-split}
-use Rattle.bits.specs.declared.Putter.{Putter}
-use Rattle.bits.specs.Code.{Puts}
-use Rattle.bits.proofs.Putting.{Going, going-turn, going-end}
+pub use Rattle.bits.proofs.Gathering.{bin-odd}
 use Rattle.codes.specs.Table.{Table, codeCount, kraft, goodTable}
 use Rattle.codes.specs.Read.{codeFrom, takeCode}
 use Rattle.codes.specs.Write.{placeOf, codeAt, word}
 use Rattle.codes.specs.Code.{Assigned}
 use Rattle.codes.proofs.Laws.{good, total-on, total-end}
-
-pub bin-odd : (n : ℕ) → bin (odd n) ≡ n % 2
-bin-odd n = go (eqb (n % 2) 1) refl
-  where
-    go : (b : Bool) → odd n ≡ b → bin b ≡ n % 2
-    go true e = sym (eqb-true (n % 2) 1 e)
-    go false e = omega (arith, eqb-false (n % 2) 1 e)
 
 pub halve : (N m : ℕ) → N / 2 ^ suc m ≡ N / 2 ^ m / 2
 halve N m = rw (pow-suc 2 m) (sym (div-div-eq-div-mul N (2 ^ m) 2))
@@ -166,7 +156,7 @@ module _ {counts : List ℕ} {place : ℕ} (sixteen : length counts ≡ 16) wher
 
       pub assigned : k < n → Assigned counts place (record { size = l + 1; number = first + k })
       unfolding codeAt
-      assigned m = record { same = rw (next, lt-ltb k n m) at (a .same); short = omega arith }
+      assigned m = record { same = rw (next, lt-ltb k n m) at (a .same); some = omega arith; short = omega arith; small = omega (arith, assign-small h) }
 
       pub assign-turn : n ≤ k → Assigning counts place (2 * (first + n)) (k - n) (l + 1)
       unfolding codeAt
@@ -180,24 +170,3 @@ module _ {counts : List ℕ} {place : ℕ} (sixteen : length counts ≡ 16) wher
         where
           powers : 2 ^ (l + 1) ≡ 2 ^ l * 2
           powers = rw (add-one l) (pow-suc 2 l)
-
--- ---- the loop over a number's bits
-
-digit-next : (left number : ℕ) → 0 < left → digits left number ≡ eqb (bitAnd (number / 2 ^ (left - 1)) 1) 1 ∷ digits (left - 1) number
-unfolding digits
-digit-next zero number h = absurd (omega arith)
-digit-next (suc left) number h = rw sub-one (ap (λ (b : ℕ). eqb b 1 ∷ digits left number) (sym (and-mask (number / 2 ^ left) 1)))
-
-pub digits-length : (n v : ℕ) → length (digits n v) ≡ n
-unfolding digits
-digits-length zero v = refl
-digits-length (suc n) v = ap suc (digits-length n v)
-
-module _ {before memory : List ℕ} {p q : Putter} (left number : ℕ) {all : List Bool} (g : Going before memory p q (digits left number) all) where
-  pub digit-turn : {after : List ℕ} {r : Putter} → 0 < left → Puts memory after q r (eqb (bitAnd (number / 2 ^ (left - 1)) 1) 1 ∷ [])
-      → Going before after p r (digits (left - 1) number) all
-  digit-turn h f = going-turn (eqb (bitAnd (number / 2 ^ (left - 1)) 1) 1 ∷ []) (digits (left - 1) number) (rw (digit-next left number h) at g) f
-
-  pub digit-end : left ≤ 0 → Puts before memory p q all
-  unfolding digits
-  digit-end h = let e : left ≡ 0 = omega arith in going-end (rw e at g)

@@ -1,19 +1,15 @@
 // Code tables of T.81, Annex C: validity, reading a code, the code of a value (01, "An AC plane has a code table").
 ghost use mathlib.Core.Path.{_≡_};
 ghost use mathlib.Core.Bool.{true};
-ghost use Prim.Native.Nat.{_+_, _*_, _^_, _≤_, _<_};
+ghost use Prim.Native.Nat.{_<_};
 ghost use lib.ListN.{length, drop};
-ghost use Rattle.bits.specs.Digits.{digits};
-ghost use Rattle.bits.specs.Code.{sourceOf, Sound, Puts};
+ghost use Rattle.bits.specs.Code.{sourceOf};
 ghost use Rattle.codes.specs.Table.{table, codeCount, kraft, holds, distinct, goodTable};
 ghost use Rattle.codes.specs.Read.{takeCode, codedOf};
-ghost use Rattle.codes.specs.Write.{placeOf, codeAt};
-ghost use Rattle.codes.specs.Code.{Assigned};
+ghost use Rattle.codes.specs.Code.{Assigned, Entries};
 use bits::Cursor;
-use bits::Putter;
 use bits::Stop;
 use bits::Taken;
-use laws::Found;
 
 pub enum Coded {
     Value(u8, Cursor),
@@ -141,20 +137,6 @@ pub fn take_code(counts: &[u8], values: &[u8], data: &[u8], c: Cursor) -> Coded
     Coded::Stopped(Stop { number: 14 })
 }
 
-// Where a value stands among the table's.
-pub fn place_of(v: u8, values: &[u8]) -> Found
-    ensures { λ r. ⌜ r ≡ placeOf v (now (values .entry)) ⌝ }
-{
-    let mut i = 0;
-    while i < values.len() {
-        if values[i] == v {
-            return Found::At(i);
-        }
-        i += 1;
-    }
-    Found::Nothing
-}
-
 // The code of the value at a place.
 fn code_at(counts: &[u8], place: usize) -> Code
     requires { ⌜ (length (now counts) ≡ 16) × (place < codeCount (now counts)) × (place < 256) ⌝ }
@@ -178,33 +160,18 @@ fn code_at(counts: &[u8], place: usize) -> Code
     Code { size: 0, number: 0 }
 }
 
-// The bits of a number, the highest first.
-pub fn put_digits(destination: &mut [u8], p: Putter, size: usize, number: u32) -> Putter
-    requires { ⌜ Sound p ⌝ }
-    requires { ⌜ (p .at < 2 ^ 61) × (size ≤ 16) ⌝ }
-    ensures { λ r. ⌜ Puts (now (destination .entry)) (now (destination .exit)) p r (digits size number) ⌝ }
+// The entries of all values, made once a call: the writer looks each code up.
+pub fn code_table(counts: &[u8], values: &[u8]) -> [u32; 256]
+    requires { ⌜ goodTable (table (now counts) (now values)) ≡ true ⌝ }
+    ensures { λ r. ⌜ Entries (table (now (counts .entry)) (now (values .entry))) r ⌝ }
 {
-    let mut q = p;
-    let mut left = size;
-    while 0 < left {
-        left -= 1;
-        q = bits::put_bit(destination, q, (number >> left) & 1 == 1);
+    let mut entries = [0; 256];
+    let mut place = 0;
+    while place < values.len() {
+        let code = code_at(counts, place);
+        let v = wide(values[place]);
+        entries[v] = 32 * code.number + (code.size as u32);
+        place += 1;
     }
-    q
-}
-
-// The code of a value that the table holds.
-pub fn put_code(
-    destination: &mut [u8],
-    p: Putter,
-    counts: &[u8],
-    values: &[u8],
-    place: usize,
-) -> Putter
-    requires { ⌜ Sound p ⌝ }
-    requires { ⌜ (p .at < 2 ^ 61) × (goodTable (table (now counts) (now values)) ≡ true) × (place < length (now values)) ⌝ }
-    ensures { λ r. ⌜ Puts (now (destination .entry)) (now (destination .exit)) p r (codeAt (now (counts .entry)) 0 1 place) ⌝ }
-{
-    let code = code_at(counts, place);
-    put_digits(destination, p, code.size, code.number)
+    entries
 }

@@ -5,16 +5,16 @@ use Rattle.ac_writer.proofs.begin.Statement.{statement}
 use Rattle.ac_writer.proofs.begin.Tie as tie
 
 plan-requires : tie.Need-plan-requires
-plan-requires c κs = c .before .before .before .before .before .before .pre .1 .1
+plan-requires c κs = c .before .before .before .before .pre .1 .1
 
 emit-requires : tie.Need-emit-requires
-emit-requires c κs = (c .before .before .before .before .before .before .before .before .pre .0, (c .before .before .before .before .before .before .before .before .pre .1 .0, c .before .plan .ensures .short))
+emit-requires c κs = (c .before .before .before .before .before .before .pre .0, (c .before .before .before .before .before .before .pre .1 .0, c .before .plan .ensures .short))
 
 returns : tie.Need-returns
-returns c = begins-open _ _ (c .before .task .given .1) (c .before .before .before .before .before .before .before .pre .0 .sound)
+returns c = λ T k. begins-open _ _ (c .before .task .given .1) (c .before .before .before .before .before .pre .0 .sound)
 
 returns-2 : tie.Need-returns-2
-returns-2 c = begins-need _ _ (c .before .before .before .before .before .enum-told .given .1) (c .before .before .before .before .plan .ensures) (c .before .before .emit .ensures)
+returns-2 c = λ T k. begins-need _ _ (c .before .before .before .before .before .enum-told .given .1) (c .before .before .before .before .plan .ensures) (c .before .before .emit .ensures T k)
 
 pub begin-spec : {M : Type 1} → statement M
 begin-spec =

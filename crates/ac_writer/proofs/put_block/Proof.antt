@@ -2,8 +2,9 @@
 use mathlib.Core.Path.{_≡_, refl, _∙_}
 use Prim.Native.Nat.{_-_}
 use lib.ListN.{length}
-use Rattle.codes.specs.Table.{table}
+use Rattle.codes.specs.Table.{Table}
 use Rattle.ac_plan.specs.Plan.{kindBlocks}
+use Rattle.ac_writer.specs.Telling.{Coded}
 use Rattle.ac_writer.proofs.Positions.{begins-near, Walking, walk-start, walk-ready, walk-turn, walk-end}
 use native.Mathlib.Omega.{arith}
 use borrow.Author.Needs.{needs}
@@ -11,27 +12,29 @@ use Rattle.ac_writer.proofs.put_block.Statement.{statement}
 use Rattle.ac_writer.proofs.put_block.Tie as tie
 
 abbrev Inv-loop : tie.InvT-loop
-Inv-loop destination₀ counts codes block later blocks s₀ i₀ destination s i =
-    (length destination ≡ length destination₀) × Walking (table counts codes) destination₀ destination s₀ s block i (kindBlocks blocks later)
+Inv-loop destination₀ entries block later blocks s₀ i₀ destination s i =
+    (length destination ≡ length destination₀) × ((T : Table) → Coded T entries → Walking T destination₀ destination s₀ s block i (kindBlocks blocks later))
 
 abbrev μ-loop : tie.MeasureT-loop
-μ-loop destination₀ counts codes block later blocks s₀ i₀ destination s i = length block - i
+μ-loop destination₀ entries block later blocks s₀ i₀ destination s i = length block - i
 
 loop-holds : tie.Need-loop-holds Inv-loop μ-loop
-loop-holds c = (refl, walk-start _ _ (c .before .before .before .pre .0 .0))
+loop-holds c = (refl, λ T k. walk-start _ _ (c .before .pre .0 .0))
 
 begin-requires : tie.Need-begin-requires Inv-loop μ-loop
 begin-requires c κs =
     let at-loop = c .before .before in
-    let a = at-loop .before .before .before .before .pre in
-    (walk-ready _ _ (at-loop .loop .inv .1) (a .1 .0 .0) (a .1 .0 .1) (a .0 .1), (a .1 .0 .0, a .1 .1))
+    let a = at-loop .before .before .pre in
+    let k = a .1 .0 .0 .coded in
+    (walk-ready _ _ (at-loop .loop .inv .1 _ k) (k .good) (a .1 .0 .1) (a .0 .1), (a .1 .0 .0, a .1 .1))
 
 do-job-requires : tie.Need-do-job-requires Inv-loop μ-loop
 do-job-requires c κs =
     let at-begin = c .before .before .before .before in
     let at-test = at-begin .before .before in
-    let a = at-test .before .before .before .before .before .pre in
-    (begins-near _ _ (at-begin .begin .ensures) (a .1 .0 .0) (walk-ready _ _ (at-test .before .loop .inv .1) (a .1 .0 .0) (a .1 .0 .1) (a .0 .1)), (at-test .loop-test .taken, a .1 .0 .1))
+    let a = at-test .before .before .before .pre in
+    let k = a .1 .0 .0 .coded in
+    (begins-near _ _ (at-begin .begin .ensures _ k) (k .good) (walk-ready _ _ (at-test .before .loop .inv .1 _ k) (k .good) (a .1 .0 .1) (a .0 .1)), (at-test .loop-test .taken, a .1 .0 .1))
 
 loop-less : tie.Need-loop-less Inv-loop μ-loop
 loop-less c =
@@ -44,13 +47,13 @@ loop-again c =
     let at-begin = at-job .before .before .before .before .before in
     let at-test = at-begin .before .before in
     let v = at-test .before .loop .inv in
-    (at-job .do-job .kept .0 ∙ at-begin .begin .kept .0 ∙ v .0, walk-turn _ _ (v .1) (at-test .loop-test .taken) (at-begin .begin .ensures) (at-job .do-job .ensures))
+    (at-job .do-job .kept .0 ∙ at-begin .begin .kept .0 ∙ v .0, λ T k. walk-turn _ _ (v .1 T k) (at-test .loop-test .taken) (at-begin .begin .ensures T k) (at-job .do-job .ensures))
 
 same-length : tie.Need-same-length Inv-loop μ-loop
 same-length c = c .before .before .before .loop .inv .0
 
 returns : tie.Need-returns Inv-loop μ-loop
-returns c = walk-end _ _ (c .before .before .before .loop .inv .1) (c .before .before .loop-test .left) (c .over .ensures)
+returns c = λ T k. walk-end _ _ (c .before .before .before .loop .inv .1 T k) (c .before .before .loop-test .left) (c .over .ensures)
 
 pub put-block-spec : {M : Type 1} → statement M
 put-block-spec =

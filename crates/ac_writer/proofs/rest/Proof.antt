@@ -1,7 +1,6 @@
 -- `ac_writer::rest` meets its contract: the bits put so far and what is left of the block are the block. Assumes nothing.
-use mathlib.Core.Path.{_≡_, refl, sym, ap, _∙_}
-use mathlib.Core.Bool.{Bool}
-use mathlib.Core.Option.{Option, none, some}
+use mathlib.Core.Path.{_≡_, refl, _∙_}
+use mathlib.Core.Option.{some}
 use Prim.Native.Nat.{ℕ, _-_, _≤_}
 use lib.IntN.{pos}
 use lib.ListN.{length, getD}

@@ -1,38 +1,37 @@
 -- `ac_writer::tell_code` meets its contract. Assumes nothing.
-use mathlib.Core.Path.{refl, sym, _∙_}
+use mathlib.Core.Path.{refl}
 use Rattle.bits.proofs.Putting.{puts-none}
-use Rattle.codes.specs.Table.{table}
-use Rattle.codes.proofs.Trip.{placed}
 use Rattle.ac_writer.proofs.Tokens.{told-held, told-lacked}
 use native.Mathlib.Omega.{arith}
 use borrow.Author.Needs.{needs}
 use Rattle.ac_writer.proofs.tell_code.Statement.{statement}
 use Rattle.ac_writer.proofs.tell_code.Tie as tie
 
-put-code-requires : tie.Need-put-code-requires
-put-code-requires c κs =
-    let a = c .before .before .before .before .before .before .before .before .before in
-    (a .pre .0 .sound, (omega (arith, a .pre .0 .near), a .pre .1, placed (a .args .value) (a .args .codes .now) _ (sym (c .before .before .before .before .place-of .ensures) ∙ c .before .before .place .given .1) .0))
-
 returns : tie.Need-returns
 returns c =
-    let a = c .before .before .before .before .before .before .before .before .before .before .before .before .args in
-    told-held (table (a .counts .now) (a .codes .now)) (a .value) (sym (c .before .before .before .before .before .before .before .place-of .ensures) ∙ c .before .before .before .before .before .place .given .1) (c .before .before .put-code .ensures) refl
+    let at-entry = c .before .before .before .before .before in
+    λ T k. told-lacked T (k .codes .each (at-entry .args .value) (omega (arith, at-entry .fits .value))) (c .before .if1 .taken) (puts-none (at-entry .pre .0 .sound)) (c .or-lacking .ensures)
+
+put-digits-requires : tie.Need-put-digits-requires
+put-digits-requires c κs =
+    let a = c .before .before .before .before .before in
+    (a .pre .0 .sound, (omega (arith, a .pre .0 .near), a .pre .1 .coded .codes .each (a .args .value) (omega (arith, a .fits .value)) .short))
 
 returns-2 : tie.Need-returns-2
 returns-2 c =
-    let a = c .before .before .before .before .before .before .before .before in
-    told-lacked (table (a .args .counts .now) (a .args .codes .now)) (a .args .value) (sym (c .before .before .before .place-of .ensures) ∙ c .before .enum-told .given .1) (puts-none (a .pre .0 .sound)) (c .or-lacking .ensures)
+    let at-if = c .before .before .before .before in
+    let at-entry = at-if .before .before .before .before in
+    λ T k. told-held T (k .codes .each (at-entry .args .value) (omega (arith, at-entry .fits .value))) (at-if .if1 .left) (c .before .before .put-digits .ensures) refl
 
 pub tell-code-spec : {M : Type 1} → statement M
 tell-code-spec =
     tie.close
     (tie.spec
-    (λ c κs. search needs)
     (λ c. search needs)
-    put-code-requires
     (λ c. search needs)
     (λ c κs. search needs)
-    (λ c. search needs)
     returns
+    (λ c. search needs)
+    put-digits-requires
+    (λ c. search needs)
     returns-2)

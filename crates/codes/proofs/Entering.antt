@@ -1,0 +1,104 @@
+-- The laws of the writer's table of codes: the loop over the places makes each value's entry. Assumes nothing.
+use mathlib.Core.Path.{_≡_, refl, sym, ap, subst, _∙_}
+use mathlib.Core.List.{List, [], _∷_}
+use mathlib.Core.Bool.{Bool, true, false, cond, not}
+use Prim.Native.Nat.{ℕ, zero, suc, _+_, _*_, _/_, _%_, _≤_, _<_}
+use native.Mathlib.Numerals.{add-one}
+use native.Mathlib.Omega.{arith}
+use lib.Dec.{eqb}
+use lib.ListN.{length, getD, set, length-set, replicate, getD-replicate}
+use lib.Seq.{getD-set-same, getD-set-other}
+use borrow.Author.Tests.{eq-eqb, ne-eqb, eqb-true, eqb-false}
+use Rattle.laws.specs.First.{firstFail, orHere}
+use Rattle.laws.specs.declared.Found.{Found}
+use Rattle.laws.specs.declared.Found.the-variants.{At, Nothing}
+use Rattle.laws.proofs.First.{first-found, all-pass}
+use Rattle.bits.specs.Digits.{digits}
+use Rattle.codes.specs.Table.{Table, holds, distinct, goodTable}
+use Rattle.codes.specs.Write.{placeOf}
+use Rattle.codes.specs.Code.{Assigned, Entered, Entries}
+use Rattle.codes.specs.declared.Code.{Code}
+use Rattle.codes.proofs.Laws.{good}
+
+-- ---- distinct values stand at one place each
+
+holds-at : (v : ℕ) (vs : List ℕ) (j : ℕ) → j < length vs → getD vs j 0 ≡ v → holds v vs ≡ true
+unfolding holds
+holds-at v [] j h e = absurd (omega arith)
+holds-at v (x ∷ vs) zero h e = rw (eq-eqb x v e)
+holds-at v (x ∷ vs) (suc j) h e = go (eqb x v) (holds-at v vs j (omega arith) e)
+  where
+    go : (b : Bool) → holds v vs ≡ true → cond b true (holds v vs) ≡ true
+    go true k = refl
+    go false k = k
+
+pub apart : (vs : List ℕ) (i j : ℕ) → distinct vs ≡ true → i < j → j < length vs → getD vs i 0 ≡ getD vs j 0 → ⊥
+unfolding distinct
+apart [] i j d l h e = omega arith
+apart (v ∷ vs) i zero d l h e = omega arith
+apart (v ∷ vs) zero (suc j) d l h e =
+    let z : _≡_ {A = Bool} false true = rw (holds-at v vs j (omega arith) (sym e)) at d in
+    let y : _≡_ {A = ℕ} 0 1 = cc in omega arith
+apart (v ∷ vs) (suc i) (suc j) d l h e = go (holds v vs) d (λ k. apart vs i j k (omega arith) (omega arith) e)
+  where
+    go : (b : Bool) → cond b false (distinct vs) ≡ true → (distinct vs ≡ true → ⊥) → ⊥
+    go true k f = let y : _≡_ {A = ℕ} 0 1 = cc in omega arith
+    go false k f = f k
+
+-- ---- the loop: the entries of the places so far
+
+abbrev other : List ℕ → ℕ → ℕ → Bool
+other values v i = not (eqb (getD values i 0) v)
+
+first-same : (test : ℕ → Bool) (i : ℕ) → test i ≡ true → firstFail (i + 1) test ≡ firstFail i test
+unfolding firstFail orHere
+first-same test i t = rw (add-one, t) (go (firstFail i test))
+  where
+    go : (f : Found) → orHere f true i ≡ f
+    go (At k) = refl
+    go Nothing = refl
+
+pub record Entering (T : Table) (entries : List ℕ) (place : ℕ) : Type 0 where
+  pub within : place ≤ length (T .values)
+  pub long : length entries ≡ 256
+  pub each : (v : ℕ) → v < 256 → Entered (T .counts) (firstFail place (other (T .values) v)) (getD entries v 0)
+
+pub enter-start : (T : Table) → Entering T (replicate 256 0) 0
+unfolding firstFail digits
+enter-start T = record { within = omega arith; long = refl; each = λ v h. rw (getD-replicate {A = ℕ} 256 v 0 0 h) (record { same = refl; short = omega arith; none = refl }) }
+
+pub entered : {counts : List ℕ} {place : ℕ} {code : Code} → Assigned counts place code → Entered counts (At place) (32 * code .number + code .size)
+entered {counts} {place} {code} a =
+    let m : (32 * code .number + code .size) % 32 ≡ code .size = omega (arith, a .short) in
+    let d : (32 * code .number + code .size) / 32 ≡ code .number = omega (arith, a .short) in
+    record { same = rw (m, d) (a .same); short = omega (arith, a .short); none = ne-eqb (32 * code .number + code .size) 0 (λ z. omega (arith, a .some)) }
+
+module _ {T : Table} {entries : List ℕ} {place : ℕ} (g : goodTable T ≡ true) (a : Entering T entries place) where
+  pub enter-turn : {code : Code} {v : ℕ} → place < length (T .values) → Assigned (T .counts) place code → v ≡ getD (T .values) place 0 → v < 256
+      → Entering T (set entries v (32 * code .number + code .size)) (place + 1)
+  enter-turn {code} {v} h c e b = record {
+    within = omega arith;
+    long = length-set entries v (32 * code .number + code .size) ∙ a .long;
+    each = λ w k. turned w k (eqb (getD (T .values) place 0) w) refl;
+  }
+    where
+      none-before : firstFail place (other (T .values) v) ≡ Nothing
+      none-before =
+          all-pass place (other (T .values) v) (λ k l. ap not (ne-eqb (getD (T .values) k 0) v (λ q. apart (T .values) k place (good T g .apart) l h (q ∙ e))))
+
+      here : Entered (T .counts) (firstFail (place + 1) (other (T .values) v)) (getD (set entries v (32 * code .number + code .size)) v 0)
+      here =
+          rw (getD-set-same entries v (32 * code .number + code .size) 0 (omega (arith, a .long)), first-found (other (T .values) v) (place + 1) place (omega arith) none-before (ap not (eq-eqb (getD (T .values) place 0) v (sym e))))
+          (entered c)
+
+      turned : (w : ℕ) → w < 256 → (t : Bool) → eqb (getD (T .values) place 0) w ≡ t
+          → Entered (T .counts) (firstFail (place + 1) (other (T .values) w)) (getD (set entries v (32 * code .number + code .size)) w 0)
+      turned w k true q =
+          subst (λ (x : ℕ). Entered (T .counts) (firstFail (place + 1) (other (T .values) x)) (getD (set entries v (32 * code .number + code .size)) x 0)) (e ∙ eqb-true (getD (T .values) place 0) w q) here
+      turned w k false q =
+          rw (getD-set-other entries v w (32 * code .number + code .size) 0 (λ z. eqb-false (getD (T .values) place 0) w q (sym e ∙ sym z)), first-same (other (T .values) w) place (ap not q))
+          (a .each w k)
+
+  pub enter-end : length (T .values) ≤ place → Entries T entries
+  unfolding placeOf
+  enter-end h = let q : place ≡ length (T .values) = omega (arith, a .within) in record { each = λ v k. rw (← q) (a .each v k) }
