@@ -1,7 +1,7 @@
 -- The base curve of the merge (01, "Merge", step 2).
 use mathlib.Core.Path.{_≡_}
 use mathlib.Core.List.{List}
-use Prim.Native.Nat.{ℕ, _+_, _*_, _^_}
+use Prim.Native.Nat.{ℕ, _+_, _*_, _^_, _<_, _≤_}
 use lib.IntN.{ℤ, pos}
 use lib.ListN.{length, getD}
 use Rattle.rounding.specs.Near.{nearest, top}
@@ -25,7 +25,14 @@ entries Straight rh = 0
 entries Table rh = 2 ^ (8 + rh)
 entries Srgb rh = 0
 
--- a curve whose table is there, and the sRGB curve "only at Rh 0"
-pub record Lent (curve : Curve) (rh : ℕ) (table : List ℕ) : Type 0 where
-  pub tabled : length table ≡ entries curve rh
+-- ---- what the curve in code asks, and what its table is made of
+
+-- a table that is long enough, and the inverse sRGB table itself for that curve, "only at Rh 0"
+pub record There (curve : Curve) (rh : ℕ) (table : List ℕ) : Type 0 where
+  pub long : entries curve rh ≤ length table
   pub plain : curve ≡ Srgb → rh ≡ 0
+  pub itself : curve ≡ Srgb → table ≡ srgb
+
+-- the straight curve at each number below n
+pub record Tones (rb rh n : ℕ) (tones : List ℕ) : Type 0 where
+  pub at : (x : ℕ) → x < n → pos (getD tones x 0) ≡ straight rb rh x

@@ -1,11 +1,11 @@
 // The base curve of the merge's step 2: straight, by a lent table, or by the inverse sRGB table.
 ghost use mathlib.Core.Path.{_≡_};
-ghost use Prim.Native.Nat.{_<_, _≤_};
-ghost use lib.IntN.{natAbs};
+ghost use Prim.Native.Nat.{_+_, _^_, _<_, _≤_};
+ghost use lib.IntN.{pos, natAbs};
 ghost use lib.ListN.{length, getD};
 ghost use Rattle.rounding.specs.Near.{top};
 ghost use Rattle.curves.specs.Srgb.{srgb};
-ghost use Rattle.curves.specs.Curves.{straight, curved, Lent};
+ghost use Rattle.curves.specs.Curves.{straight, curved, Tones, There};
 
 // The base curve of step 2.
 pub enum Curve {
@@ -283,13 +283,33 @@ const SRGB: [u16; 256] = [
     65535,
 ];
 
-// An entry of the inverse sRGB table.
-fn srgb(x: u16) -> u16
-    requires { ⌜ x < 256 ⌝ }
-    ensures { λ t. ⌜ t ≡ getD srgb x 0 ⌝ }
+// The inverse sRGB table, to be lent like any other: a constant array is built anew wherever it is named.
+pub fn srgb_table() -> [u16; 256]
+    ensures { λ t. ⌜ t ≡ srgb ⌝ }
 {
-    let i = x as usize;
-    SRGB[i]
+    SRGB
+}
+
+// The straight curve at a number of the base's range.
+fn tone(rb: u32, rh: u32, x: u16) -> u16
+    requires { ⌜ (rb ≤ 8) × ((rh ≤ 4) × (x ≤ top rh)) ⌝ }
+    ensures { λ t. ⌜ pos t ≡ straight rb rh x ⌝ }
+{
+    straight(rb, rh, x) as u16
+}
+
+// The straight curve as a table, which is made once for a picture.
+pub fn make_tones(rb: u32, rh: u32, tones: &mut [u16])
+    requires { ⌜ (rb ≤ 8) × ((rh ≤ 4) × (2 ^ (8 + rh) ≤ length (now tones))) ⌝ }
+    ensures { λ r. ⌜ Tones rb rh (2 ^ (8 + rh)) (now (tones .exit)) ⌝ }
+{
+    let entries = rounding::power(8 + rh) as usize;
+    let mut x = 0;
+    while x < entries {
+        let t = tone(rb, rh, x as u16);
+        tones[x] = t;
+        x += 1;
+    }
 }
 
 // An entry of a lent table.
@@ -301,15 +321,15 @@ fn entry(table: &[u16], x: u16) -> u16
     table[i]
 }
 
-// Step 2 at one number.
+// Step 2 at one number, where the table of the curve is there.
 pub fn curved(curve: Curve, rb: u32, rh: u32, table: &[u16], x: u16) -> i64
     requires { ⌜ (rb ≤ 8) × ((rh ≤ 4) × (x ≤ top rh)) ⌝ }
-    requires { ⌜ Lent curve rh (now table) ⌝ }
+    requires { ⌜ There curve rh (now table) ⌝ }
     ensures { λ r. ⌜ (r ≡ curved curve rb rh (now (table .entry)) x) × (natAbs r ≤ 4294967296) ⌝ }
 {
     match curve {
         Curve::Straight => straight(rb, rh, x),
         Curve::Table => rounding::wide_count(entry(table, x) as u32),
-        Curve::Srgb => rounding::wide_count(srgb(x) as u32),
+        Curve::Srgb => rounding::wide_count(entry(table, x) as u32),
     }
 }

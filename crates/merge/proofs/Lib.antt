@@ -1,3 +1,5 @@
+pub mod Cases
 pub mod Laws
 pub mod Filling
 pub mod Order
+pub mod Tones

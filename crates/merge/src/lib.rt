@@ -4,8 +4,9 @@ ghost use mathlib.Core.List.{_++_};
 ghost use Prim.Native.Nat.{_*_, _<_, _≤_};
 ghost use lib.ListN.{length, drop};
 ghost use Rattle.answers.specs.Verdict.{Meets, Tried};
+ghost use Rattle.curves.specs.declared.Curve.the-variants.{Straight, Srgb};
 ghost use Rattle.pixel.specs.Pixels.{single, samplesOf};
-ghost use Rattle.settings.specs.Tests.{samples, Lending};
+ghost use Rattle.settings.specs.Tests.{samples, Passed, Lending};
 ghost use Rattle.merge.specs.Picture.{mergedAt, mergedPicture, merge};
 
 // Pixel p of the result, for one component.
@@ -101,6 +102,93 @@ fn fill_three(
     }
 }
 
+// The picture, by a table that the curve can go by.
+fn fill_by(
+    s: pixel::Setting,
+    pixels: usize,
+    base: &[i32],
+    residual: &[i32],
+    table: &[u16],
+    destination: &mut [u16],
+)
+    requires { ⌜ Lending s pixels (now base) (now residual) (now table) ⌝ }
+    requires { ⌜ samples s pixels ≤ length (now destination) ⌝ }
+    ensures { λ r. ⌜ now (destination .exit) ≡ mergedPicture s pixels (now (base .entry)) (now (residual .entry)) (now (table .entry)) ++ drop (samples s pixels) (now (destination .entry)) ⌝ }
+{
+    if s.components == 1 {
+        fill_one(s, pixels, base, residual, table, destination);
+        return;
+    }
+    fill_three(s, pixels, base, residual, table, destination);
+}
+
+// The picture by the inverse sRGB table, which takes the place of the one that is not lent.
+fn fill_srgb(
+    s: pixel::Setting,
+    pixels: usize,
+    base: &[i32],
+    residual: &[i32],
+    table: &[u16],
+    destination: &mut [u16],
+)
+    requires { ⌜ Passed s pixels (now base) (now residual) (now table) × (s .curve ≡ Srgb) ⌝ }
+    requires { ⌜ samples s pixels ≤ length (now destination) ⌝ }
+    ensures { λ r. ⌜ now (destination .exit) ≡ mergedPicture s pixels (now (base .entry)) (now (residual .entry)) (now (table .entry)) ++ drop (samples s pixels) (now (destination .entry)) ⌝ }
+{
+    let tones = curves::srgb_table();
+    fill_by(s, pixels, base, residual, &tones, destination);
+}
+
+// The picture by the straight curve. A table of it is made where the picture has twice as many pixels, by which it pays (measured).
+fn fill_straight(
+    s: pixel::Setting,
+    pixels: usize,
+    base: &[i32],
+    residual: &[i32],
+    table: &[u16],
+    destination: &mut [u16],
+)
+    requires { ⌜ Passed s pixels (now base) (now residual) (now table) × (s .curve ≡ Straight) ⌝ }
+    requires { ⌜ samples s pixels ≤ length (now destination) ⌝ }
+    ensures { λ r. ⌜ now (destination .exit) ≡ mergedPicture s pixels (now (base .entry)) (now (residual .entry)) (now (table .entry)) ++ drop (samples s pixels) (now (destination .entry)) ⌝ }
+{
+    if pixels < rounding::power(9 + s.rh) as usize {
+        fill_by(s, pixels, base, residual, table, destination);
+        return;
+    }
+    let mut tones = [0u16; 4096];
+    curves::make_tones(s.rb, s.rh, &mut tones);
+    fill_by(
+        pixel::by_table(s),
+        pixels,
+        base,
+        residual,
+        &tones,
+        destination,
+    );
+}
+
+// The picture by whatever curve is set.
+fn fill(
+    s: pixel::Setting,
+    pixels: usize,
+    base: &[i32],
+    residual: &[i32],
+    table: &[u16],
+    destination: &mut [u16],
+)
+    requires { ⌜ Passed s pixels (now base) (now residual) (now table) ⌝ }
+    requires { ⌜ samples s pixels ≤ length (now destination) ⌝ }
+    ensures { λ r. ⌜ now (destination .exit) ≡ mergedPicture s pixels (now (base .entry)) (now (residual .entry)) (now (table .entry)) ++ drop (samples s pixels) (now (destination .entry)) ⌝ }
+{
+    let curve = s.curve;
+    match curve {
+        curves::Curve::Straight => fill_straight(s, pixels, base, residual, table, destination),
+        curves::Curve::Table => fill_by(s, pixels, base, residual, table, destination),
+        curves::Curve::Srgb => fill_srgb(s, pixels, base, residual, table, destination),
+    }
+}
+
 // The refusals in their order, then the picture. A refusal may leave anything in the destination.
 fn try_merge(
     s: pixel::Setting,
@@ -132,11 +220,7 @@ fn try_merge(
     if destination.len() < count {
         return answers::refuse(9, count);
     }
-    if s.components == 1 {
-        fill_one(s, pixels, base, residual, table, destination);
-        return answers::Outcome::Given(count);
-    }
-    fill_three(s, pixels, base, residual, table, destination);
+    fill(s, pixels, base, residual, table, destination);
     answers::Outcome::Given(count)
 }
 

@@ -4,7 +4,8 @@ use Prim.Native.Nat.{ℕ, _+_, _^_, _≤_}
 use lib.IntN.{ℤ, pos, negℤ, _+ℤ_, _-ℤ_, _*ℤ_}
 use lib.ListN.{getD}
 use Rattle.rounding.specs.Near.{nearest, clip, row, top}
-use Rattle.curves.specs.Curves.{curved, Lent}
+use Rattle.curves.specs.Curves.{curved, There}
+use Rattle.curves.specs.declared.Curve.{Curve}
 use Rattle.pixel.specs.declared.Setting.{Setting}
 use Rattle.pixel.specs.declared.Colour.{Colour}
 use Rattle.pixel.specs.declared.Colour.the-variants.{Identity, Transform}
@@ -102,10 +103,26 @@ basis s table p = stepThree s (stepTwo s table (stepOne s p))
 unfoldable pub merged : Setting → List ℕ → Pixel ℤ → Pixel ℤ → Pixel ℕ
 merged s table base residual = stepFive s (basis s table base) (stepFour s residual)
 
+-- the same setting with another curve
+abbrev pub byCurve : Curve → Setting → Setting
+byCurve k s =
+    record {
+      rb = s .rb;
+      rh = s .rh;
+      rr = s .rr;
+      components = s .components;
+      «base_transform» = s .«base_transform»;
+      curve = k;
+      matrix = s .matrix;
+      weights = s .weights;
+      residual = s .residual;
+      «residual_transform» = s .«residual_transform»;
+    }
+
 -- ---- what the steps in code ask of a setting: the ranges, and a curve whose table is there
 
 pub record Ready (s : Setting) (table : List ℕ) : Type 0 where
   pub rb-small : s .rb ≤ 8
   pub rh-small : s .rh ≤ 4
   pub rr-small : s .rr ≤ 4
-  pub lent : Lent (s .curve) (s .rh) table
+  pub there : There (s .curve) (s .rh) table

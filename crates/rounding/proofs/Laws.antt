@@ -2,14 +2,14 @@
 use borrow.Author.Tests.{ltb-true, ltb-false, le-ltb}
 use mathlib.Core.Path.{_≡_, refl, sym, ap, subst, _∙_}
 use mathlib.Core.Bool.{Bool, true, false}
-use Prim.Native.Nat.{ℕ, _+_, _*_, _/_, _%_, _^_, _≤_, _<_, zero-le}
+use Prim.Native.Nat.{ℕ, _+_, _*_, _/_, _%_, _^_, _≤_, _<_, min, zero-le}
 use native.Mathlib.Nat.{mul-le-mul-left, lt-of-mul-lt-mul-left, mod-eq-of-lt}
 use native.Mathlib.Omega.{arith}
 use lib.Dec.{T, leb, leb→le}
 use lib.Pow.{pow-mono}
 use lib.IntN.{ℤ, pos, negsuc, negℤ, natAbs, _+ℤ_, _-ℤ_, _*ℤ_}
 use lib.Signed.{ltZ, nonNeg, shrZ}
-use Rattle.laws.proofs.Integers.{up, dn, sum, eqZ, pos-up, pos-dn, abs, one, abs-sum, abs-neg, abs-prod-le, ≤-to, <-to, ≤-of, <-of, floor-low, floor-high, floor-abs}
+use Rattle.laws.proofs.Integers.{up, dn, sum, eqZ, pos-up, pos-dn, neg-up, neg-dn, abs, one, abs-sum, abs-neg, abs-prod-le, ≤-to, <-to, ≤-of, <-of, floor-low, floor-high, floor-abs}
 use Rattle.laws.proofs.Floors.{times, floor-is, floor-scale}
 use Rattle.laws.proofs.Lists.{each}
 use Rattle.rounding.specs.Near.{nearest, clip, row}
@@ -74,30 +74,67 @@ nearest-within t m b h g =
     let below : m * (2 * dn (q +ℤ pos 1)) < m * (2 * b + 2 * up (q +ℤ pos 1)) = omega (arith, times (2 * m) (q +ℤ pos 1), times 2 t, pos-up m, pos-dn m, abs t) in
     omega (arith, lt-of-mul-lt-mul-left m above, lt-of-mul-lt-mul-left m below, sum q (pos 1), pos-up 1, pos-dn 1, abs q, one q, one (q +ℤ pos 1))
 
+-- 4000000000000 wholes and a half, in millionths
+abbrev pub lift : ℕ
+lift = 4000000000000500000
+
+-- t millionths, lifted to n, which is positive
+pub whole-is : (t : ℤ) (n : ℕ) → t +ℤ pos lift ≡ pos n → pos (n / 1000000) -ℤ pos 4000000000000 ≡ nearest t 1000000
+whole-is t n e =
+    let k = n / 1000000 in
+    let z = t +ℤ pos 500000 in
+    let q = pos k -ℤ pos 4000000000000 in
+    let over : up t + lift ≡ n + dn t =
+    omega (arith, sum t (pos lift), ap up e, ap dn e, pos-up n, pos-dn n, pos-up lift, pos-dn lift)
+    in
+    let short : up q + 4000000000000 ≡ k + dn q =
+    omega (arith, sum (pos k) (negℤ (pos 4000000000000)), pos-up k, pos-dn k, neg-up (pos 4000000000000), neg-dn (pos 4000000000000), pos-up 4000000000000, pos-dn 4000000000000)
+    in
+    let half = sum t (pos 500000) in
+    let next = sum q (pos 1) in
+    sym
+    (nearest-floor t 1000000 (omega arith)
+    ∙ floor-is z q 1000000 (omega arith)
+    (≤-of _ _ (omega (arith, times 1000000 q, pos-up 500000, pos-dn 500000)))
+    (<-of _ _ (omega (arith, times 1000000 (q +ℤ pos 1), pos-up 500000, pos-dn 500000, pos-up 1, pos-dn 1))))
+
+-- t lifted is no negative number, and fits
+pub record Lifted (t : ℤ) : Type 0 where
+  pub same : t +ℤ pos lift ≡ pos (natAbs (t +ℤ pos lift))
+  pub small : natAbs (t +ℤ pos lift) ≤ 8000000000000500000
+
+pub lifted : (t : ℤ) → natAbs t ≤ 4000000000000000000 → Lifted t
+lifted t h =
+    let z = t +ℤ pos lift in
+    let e = sum t (pos lift) in
+    let known : natAbs z ≡ up z + dn z = abs z in
+    let up′ : up (pos lift) ≡ lift = pos-up lift in
+    let dn′ : dn (pos lift) ≡ 0 = pos-dn lift in
+    record {
+      same = eqZ _ _ (omega (arith, abs t, one z, pos-up (natAbs z), pos-dn (natAbs z)));
+      small = omega (arith, abs t, one z);
+    }
+
 -- ---- clip
 
 true-false {ℓ} : {X : Type ℓ} {t : Bool} → t ≡ true → t ≡ false → X
 true-false p q = absurd (subst T (sym p ∙ q) tt)
 
-pub clip-low : (v : ℤ) (top : ℕ) → ltZ v (pos 0) ≡ true → 0 ≡ clip v top
+-- below 0
+pub clip-low : (v : ℤ) → ltZ v (pos 0) ≡ true → (top : ℕ) → min 0 top ≡ clip v top
 unfolding clip
-clip-low (pos n) top e = true-false e (le-ltb n 0 zero-le)
-clip-low (negsuc n) top e = refl
+clip-low (pos n) e top = true-false e (le-ltb n 0 zero-le)
+clip-low (negsuc n) e top = omega arith
 
-pub clip-high : (v : ℤ) (top : ℕ) → ltZ (pos top) v ≡ true → top ≡ clip v top
-unfolding clip
-clip-high (pos n) top e = omega (arith, ltb-true top n e)
-clip-high (negsuc n) top e = true-false e refl
-
-pub record Within (v : ℤ) (top : ℕ) : Type 0 where
+-- from 0 on
+pub record Raised (v : ℤ) : Type 0 where
   pub positive : T (nonNeg v)
-  pub small : natAbs v ≤ top
-  pub same : natAbs v ≡ clip v top
+  pub same : (top : ℕ) → min (natAbs v) top ≡ clip v top
 
-pub clip-in : (v : ℤ) (top : ℕ) → ltZ v (pos 0) ≡ false → ltZ (pos top) v ≡ false → Within v top
+pub clip-raised : (v : ℤ) → ltZ v (pos 0) ≡ false → Raised v
 unfolding clip
-clip-in (pos n) top e f = let h = ltb-false top n f in record { positive = tt; small = h; same = omega arith }
-clip-in (negsuc n) top e f = true-false refl e
+clip-raised (pos n) e = record { positive = tt; same = λ top. refl }
+clip-raised (negsuc n) e = true-false refl e
 
 pub clip-small : (v : ℤ) (top : ℕ) → clip v top ≤ top
 unfolding clip
@@ -133,5 +170,5 @@ centre-below r h = leb→le (2 ^ (7 + r)) 32768 (each 9 (λ k. leb (2 ^ (7 + k))
 
 -- ---- differences
 
-pub less-small : (x centre : ℤ) → natAbs x ≤ 549755813888 → natAbs centre ≤ 32768 → natAbs (x -ℤ centre) ≤ 1099511627776
+pub less-small : (x centre : ℤ) → natAbs x ≤ 549755813888 → natAbs centre ≤ 32768 → natAbs (x -ℤ centre) ≤ 549755846656
 less-small x centre h g = omega (arith, abs-sum x (negℤ centre), abs-neg centre)

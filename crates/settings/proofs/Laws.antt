@@ -14,9 +14,10 @@ use Rattle.laws.specs.Index.{every}
 use Rattle.laws.proofs.Lists.{every-first, every-rest}
 use Rattle.curves.specs.declared.Curve.{Curve}
 use Rattle.curves.specs.declared.Curve.the-variants.{Srgb}
-use Rattle.curves.specs.Curves.{entries, Lent}
+use Rattle.curves.specs.Curves.{entries, There}
 use Rattle.pixel.specs.declared.Setting.{Setting}
-use Rattle.settings.specs.Tests.{oneOrThree, inRanges, srgbAllowed, isSrgb, samples, residualCount, lengthsRight, Ranged, Lending}
+use Rattle.pixel.specs.Steps.{byCurve}
+use Rattle.settings.specs.Tests.{oneOrThree, inRanges, srgbAllowed, isSrgb, samples, residualCount, lengthsRight, Ranged, Passed, Lending}
 
 -- one component or three
 pub one-or-three : (c : ℕ) → oneOrThree c ≡ true → (c ≡ 1) ⊎ (c ≡ 3)
@@ -55,18 +56,28 @@ plain-srgb : (curve : Curve) (rh rb : ℕ) → cond (isSrgb curve) (every (eqb r
 plain-srgb curve rh rb e q = eqb-true rh 0 (every-first (eqb rh 0) (eqb rb 8 ∷ []) (sym (ap (λ k. cond (isSrgb k) (every (eqb rh 0 ∷ eqb rb 8 ∷ [])) true) q) ∙ e))
 
 -- 20 and 21 passed
-pub lending : (s : Setting) (n : ℕ) (base residual : List ℤ) (table : List ℕ) → Ranged s n → srgbAllowed s ≡ true → lengthsRight s n base residual table ≡ true
-    → Lending s n base residual table
+pub passed : (s : Setting) (n : ℕ) (base residual : List ℤ) (table : List ℕ) → Ranged s n → srgbAllowed s ≡ true → lengthsRight s n base residual table ≡ true
+    → Passed s n base residual table
 unfolding srgbAllowed lengthsRight residualCount
-lending s n base residual table r a e =
+passed s n base residual table r a e =
     let e₂ = every-rest (eqb (length base) (samples s n)) _ e in
     let e₃ = every-rest (eqb (length residual) (residualCount (s .residual) (samples s n))) _ e₂ in
-    let lent : Lent (s .curve) (s .rh) table =
-    record { tabled = eqb-true (length table) (entries (s .curve) (s .rh)) (every-first (eqb (length table) (entries (s .curve) (s .rh))) _ e₃); plain = plain-srgb (s .curve) (s .rh) (s .rb) a }
-    in
     record {
       ranged = r;
-      ready = record { rb-small = r .rb-small; rh-small = r .rh-small; rr-small = r .rr-small; lent = lent };
+      plain = plain-srgb (s .curve) (s .rh) (s .rb) a;
       base-long = eqb-true (length base) (samples s n) (every-first (eqb (length base) (samples s n)) _ e);
       residual-long = λ q. eqb-true (length residual) (residualCount (s .residual) (samples s n)) (every-first (eqb (length residual) (residualCount (s .residual) (samples s n))) _ e₂) ∙ ap (λ k. residualCount k (samples s n)) q;
+      table-long = eqb-true (length table) (entries (s .curve) (s .rh)) (every-first (eqb (length table) (entries (s .curve) (s .rh))) _ e₃);
+    }
+
+-- a table that a curve can go by, in the place of what was lent
+pub lending : {s : Setting} {n : ℕ} {base residual : List ℤ} {table : List ℕ} → Passed s n base residual table → (k : Curve) (tones : List ℕ) → There k (s .rh) tones
+    → Lending (byCurve k s) n base residual tones
+lending h k tones there =
+    let r = h .ranged in
+    record {
+      ranged = record { rb-small = r .rb-small; rh-small = r .rh-small; rr-small = r .rr-small; components-right = r .components-right; pixels-few = r .pixels-few };
+      ready = record { rb-small = r .rb-small; rh-small = r .rh-small; rr-small = r .rr-small; there = there };
+      base-long = h .base-long;
+      residual-long = h .residual-long;
     }

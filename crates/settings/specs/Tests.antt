@@ -83,7 +83,15 @@ pub record Ranged (s : Setting) (pixels : ℕ) : Type 0 where
   pub components-right : oneOrThree (s .components) ≡ true
   pub pixels-few : pixels ≤ 65536
 
--- settings that are ready and inputs that are long enough
+-- what 20 and 21 leave: settings in their ranges, and inputs as long as they ask
+pub record Passed (s : Setting) (pixels : ℕ) (base residual : List ℤ) (table : List ℕ) : Type 0 where
+  pub ranged : Ranged s pixels
+  pub plain : s .curve ≡ Srgb → s .rh ≡ 0
+  pub base-long : length base ≡ samples s pixels
+  pub residual-long : s .residual ≡ Present → length residual ≡ samples s pixels
+  pub table-long : length table ≡ entries (s .curve) (s .rh)
+
+-- the same, and a table that the curve can go by
 pub record Lending (s : Setting) (pixels : ℕ) (base residual : List ℤ) (table : List ℕ) : Type 0 where
   pub ranged : Ranged s pixels
   pub ready : Ready s table

@@ -3,6 +3,7 @@ use borrow.Author.Needs.{needs}
 use mathlib.Core.Path.{_∙_, ap}
 use native.Mathlib.Omega.{arith}
 use lib.IntN.{pos, natAbs}
+use lib.ListN.{getD}
 use mir.Syntax.{w64}
 use Rattle.laws.proofs.Integers.{back}
 use Rattle.curves.specs.Curves.{curved}
@@ -15,8 +16,8 @@ entry-requires c κs =
     let s = c .before .before .before in
     in-table (s .pre .1) (s .args .x) (s .pre .0 .1 .1) (s .pre .0 .1 .0) (c .enum-told2 .given .1)
 
-srgb-requires : tie.Need-srgb-requires
-srgb-requires c κs =
+entry-requires-2 : tie.Need-entry-requires-2
+entry-requires-2 c κs =
     let s = c .before .before .before in
     in-srgb (s .pre .1) (s .args .x) (s .pre .0 .1 .1) (c .enum-told3 .given .1)
 
@@ -36,7 +37,12 @@ returns-3 : tie.Need-returns-3
 unfolding curved
 returns-3 c =
     let r = c .wide-count2 in
-    rw (back w64 (r .result) (r .ok), c .before .before .enum-told3 .given .1) (r .ensures ∙ ap pos (c .before .srgb .ensures), omega (arith, ap natAbs (r .ensures)))
+    let e = c .before .before .enum-told3 .given .1 in
+    let s = c .before .before .before .before .before in
+    rw (back w64 (r .result) (r .ok), e) (
+      r .ensures ∙ ap pos (c .before .entry2 .ensures ∙ ap (λ l. getD l (s .args .x) 0) (s .pre .1 .itself e)),
+      omega (arith, ap natAbs (r .ensures)),
+    )
 
 pub curved-spec : {M : Type 1} → statement M
 curved-spec =
@@ -49,7 +55,7 @@ curved-spec =
     (λ c. search needs)
     (λ c κs. search needs)
     (λ c. search needs)
-    srgb-requires
+    entry-requires-2
     (λ c. search needs)
     (λ c κs. search needs)
     returns

@@ -3,7 +3,6 @@ use borrow.Author.Needs.{needs}
 use borrow.Author.Tests.{not-true, not-false}
 use mathlib.Core.Path.{_≡_, sym, ap, _∙_}
 use mathlib.Core.Bool.{true}
-use mathlib.Core.Logic.{⊎-elim}
 use native.Mathlib.Omega.{arith}
 use mathlib.Core.List.{_++_}
 use lib.ListN.{length, drop}
@@ -12,8 +11,8 @@ use Rattle.answers.proofs.Laws.{tried-refused, tried-given}
 use Rattle.answers.specs.declared.Outcome.the-variants.{Given}
 use Rattle.rounding.specs.Near.{top}
 use Rattle.merge.specs.Picture.{mergedPicture}
-use Rattle.settings.specs.Tests.{inRanges, plain, srgbAllowed, lengthsRight, entryRight, Ranged, Lending}
-use Rattle.settings.proofs.Laws.{ranged, lending, one-or-three, count-small}
+use Rattle.settings.specs.Tests.{inRanges, plain, srgbAllowed, lengthsRight, entryRight, Ranged, Passed}
+use Rattle.settings.proofs.Laws.{ranged, passed, count-small}
 use Rattle.merge.proofs.Order.{no-range, not-plain, no-srgb, no-lengths, too-large, no-room, all-right, picture-long}
 use Rattle.merge.proofs.try_merge.Statement.{statement}
 use Rattle.merge.proofs.try_merge.Tie as tie
@@ -39,9 +38,9 @@ module _ (c : tie.Else4) where
   unfolding start
   passed-4 = sym (c .before .lengths-right .ensures) ∙ not-false _ (c .if4 .left)
 
-  lent : Lending (start .args .s) (start .args .pixels) (start .args .base .now) (start .args .residual .now) (start .args .table .now)
+  through : Passed (start .args .s) (start .args .pixels) (start .args .base .now) (start .args .residual .now) (start .args .table .now)
   unfolding start
-  lent = lending _ _ _ _ _ (in-range (c .before .before)) (passed-3 (c .before .before)) passed-4
+  through = passed _ _ _ _ _ (in-range (c .before .before)) (passed-3 (c .before .before)) passed-4
 
 returns : tie.Need-returns
 returns c = tried-refused (c .refuse .ensures) (no-range _ _ _ _ _ _ (sym (c .before .before .in-ranges .ensures) ∙ not-true _ (c .before .if1 .taken)))
@@ -90,41 +89,21 @@ returns-6 c =
     let l = c .before .before .before .before .before in
     tried-refused (c .refuse6 .ensures) (no-room _ _ _ _ _ _ (passed-1 (l .before .before .before .before .before .before .before .before)) (passed-2 (l .before .before .before .before .before .before)) (passed-3 (l .before .before .before .before)) (passed-4 (l .before .before)) (searched l ∙ at-enum-told .enum-told .given .1) (c .before .if5 .taken))
 
-fill-one-requires : tie.Need-fill-one-requires
+fill-requires : tie.Need-fill-requires
 unfolding start
-fill-one-requires c κs = (lent (c .before .before .before .before .before .before .before .before .before), (c .before .if6 .taken, c .before .before .before .if5 .left))
+fill-requires c κs = (through (c .before .before .before .before .before .before .before), c .before .if5 .left)
 
 returns-7 : tie.Need-returns-7
 unfolding start
 returns-7 c =
-    let at-fill-one = c .before .before in
-    let at-if5 = at-fill-one .before .before .before .before in
+    let at-fill = c .before .before in
+    let at-if5 = at-fill .before .before in
     let at-enum-told = at-if5 .before .before in
-    let l = c .before .before .before .before .before .before .before .before .before .before in
+    let l = c .before .before .before .before .before .before .before .before in
     let a = start (l .before .before) .args in
     let long = picture-long (a .s) (a .pixels) (a .base .now) (a .residual .now) (a .table .now) (length (a .destination .now)) in
     tried-given (ap Given (sym long)) (all-right _ _ _ _ _ _ (passed-1 (l .before .before .before .before .before .before .before .before)) (passed-2 (l .before .before .before .before .before .before)) (passed-3 (l .before .before .before .before)) (passed-4 (l .before .before)) (searched l ∙ at-enum-told .enum-told .given .1) (at-if5 .if5 .left))
-    (at-fill-one .fill-one .ensures ∙ ap (λ k. mergedPicture (a .s) (a .pixels) (a .base .now) (a .residual .now) (a .table .now) ++ drop k (a .destination .now)) (sym long))
-
-three : (c : tie.Else4) → (start c .args .s .components ≡ 1 → ⊥) → start c .args .s .components ≡ 3
-unfolding start
-three c h = ⊎-elim (λ e. absurd (h e)) (λ e. e) (one-or-three _ (in-range (c .before .before) .components-right))
-
-fill-three-requires : tie.Need-fill-three-requires
-unfolding start
-fill-three-requires c κs = (lent (c .before .before .before .before .before .before .before .before .before), (three (c .before .before .before .before .before .before .before .before .before) (c .before .if6 .left), c .before .before .before .if5 .left))
-
-returns-8 : tie.Need-returns-8
-unfolding start
-returns-8 c =
-    let at-fill-three = c .before .before in
-    let at-if5 = at-fill-three .before .before .before .before in
-    let at-enum-told = at-if5 .before .before in
-    let l = c .before .before .before .before .before .before .before .before .before .before in
-    let a = start (l .before .before) .args in
-    let long = picture-long (a .s) (a .pixels) (a .base .now) (a .residual .now) (a .table .now) (length (a .destination .now)) in
-    tried-given (ap Given (sym long)) (all-right _ _ _ _ _ _ (passed-1 (l .before .before .before .before .before .before .before .before)) (passed-2 (l .before .before .before .before .before .before)) (passed-3 (l .before .before .before .before)) (passed-4 (l .before .before)) (searched l ∙ at-enum-told .enum-told .given .1) (at-if5 .if5 .left))
-    (at-fill-three .fill-three .ensures ∙ ap (λ k. mergedPicture (a .s) (a .pixels) (a .base .now) (a .residual .now) (a .table .now) ++ drop k (a .destination .now)) (sym long))
+    (at-fill .fill .ensures ∙ ap (λ k. mergedPicture (a .s) (a .pixels) (a .base .now) (a .residual .now) (a .table .now) ++ drop k (a .destination .now)) (sym long))
 
 pub try-merge-spec : {M : Type 1} → statement M
 try-merge-spec =
@@ -152,9 +131,6 @@ try-merge-spec =
     mul-count
     (λ c κs. search needs)
     returns-6
-    fill-one-requires
+    fill-requires
     (λ c. search needs)
-    returns-7
-    fill-three-requires
-    (λ c. search needs)
-    returns-8)
+    returns-7)

@@ -24,7 +24,7 @@ returns c =
     rw (back w64 (r .result) (r .ok)) (ap single e ∙ sym (basis-single (a .s) (a .table .now) (a .y)), r .ensures .1)
 
 toned-requires : tie.Need-toned-requires
-toned-requires c κs = let h = c .before .before .pre in ((h .rb-small, h .rh-small), h .lent)
+toned-requires c κs = let h = c .before .before .pre in ((h .rb-small, h .rh-small), h .there)
 
 pub basis-one-spec : {M : Type 1} → statement M
 basis-one-spec = tie.close (tie.spec (λ c κs. search needs) toned-requires returns)

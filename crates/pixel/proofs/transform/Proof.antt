@@ -27,7 +27,7 @@ module _ (c : tie.After-less2) where
   cr-read : toZ w64 (ofZ w64 (c .less2 .result)) ≡ c .less2 .result
   cr-read = back w64 (c .less2 .result) (c .less2 .ok)
 
-  small : (natAbs (toZ w64 (ofZ w64 (start .args .t .first))) ≤ 1099511627776) × ((natAbs (toZ w64 (ofZ w64 (c .before .before .less .result))) ≤ 1099511627776) × (natAbs (toZ w64 (ofZ w64 (c .less2 .result))) ≤ 1099511627776))
+  small : (natAbs (toZ w64 (ofZ w64 (start .args .t .first))) ≤ 549755846656) × ((natAbs (toZ w64 (ofZ w64 (c .before .before .less .result))) ≤ 549755846656) × (natAbs (toZ w64 (ofZ w64 (c .less2 .result))) ≤ 549755846656))
   unfolding start
   small = rw (y-read, cb-read, cr-read) (omega (arith, start .pre .0 .first-small), (c .before .before .less .ensures .1, c .less2 .ensures .1))
 

@@ -13,25 +13,25 @@ use Rattle.rounding.proofs.row.Tie as tie
 
 module _ (c : tie.Start) where
   ka : SFits w64 (c .args .k *ℤ c .args .a)
-  ka = fit-in w64 tt (abs-prod-le (c .args .k) (c .args .a) 2097152 1099511627776 (c .pre .0 .0) (c .pre .1 .0))
+  ka = fit-in w64 tt (abs-prod-le (c .args .k) (c .args .a) 2097152 549755846656 (c .pre .0 .0) (c .pre .1 .0))
 
   lb : SFits w64 (c .args .l *ℤ c .args .b)
-  lb = fit-in w64 tt (abs-prod-le (c .args .l) (c .args .b) 2097152 1099511627776 (c .pre .0 .1 .0) (c .pre .1 .1 .0))
+  lb = fit-in w64 tt (abs-prod-le (c .args .l) (c .args .b) 2097152 549755846656 (c .pre .0 .1 .0) (c .pre .1 .1 .0))
 
   mc : SFits w64 (c .args .m *ℤ c .args .c)
-  mc = fit-in w64 tt (abs-prod-le (c .args .m) (c .args .c) 2097152 1099511627776 (c .pre .0 .1 .1) (c .pre .1 .1 .1))
+  mc = fit-in w64 tt (abs-prod-le (c .args .m) (c .args .c) 2097152 549755846656 (c .pre .0 .1 .1) (c .pre .1 .1 .1))
 
   two : SFits w64 (c .args .k *ℤ c .args .a +ℤ c .args .l *ℤ c .args .b)
   two =
       let a = c .args in
       let p = c .pre in
-      fit-in w64 tt (pair-small 2097152 1099511627776 (a .k) (a .l) (a .m) (a .a) (a .b) (a .c) (p .0 .0) (p .0 .1 .0) (p .0 .1 .1) (p .1 .0) (p .1 .1 .0) (p .1 .1 .1))
+      fit-in w64 tt (pair-small 2097152 549755846656 (a .k) (a .l) (a .m) (a .a) (a .b) (a .c) (p .0 .0) (p .0 .1 .0) (p .0 .1 .1) (p .1 .0) (p .1 .1 .0) (p .1 .1 .1))
 
   three : SFits w64 (row (c .args .k) (c .args .l) (c .args .m) (c .args .a) (c .args .b) (c .args .c))
   three =
       let a = c .args in
       let p = c .pre in
-      fit-in w64 tt (row-small 2097152 1099511627776 (a .k) (a .l) (a .m) (a .a) (a .b) (a .c) (p .0 .0) (p .0 .1 .0) (p .0 .1 .1) (p .1 .0) (p .1 .1 .0) (p .1 .1 .1))
+      fit-in w64 tt (row-small 2097152 549755846656 (a .k) (a .l) (a .m) (a .a) (a .b) (a .c) (p .0 .0) (p .0 .1 .0) (p .0 .1 .1) (p .1 .0) (p .1 .1 .0) (p .1 .1 .1))
 
 mul-result : tie.Need-mul-result
 mul-result c = let f = ka c in search needs
@@ -58,7 +58,7 @@ returns c =
     let a = c .args in
     let p = c .pre in
     rw (toZ-ofZ (f .k), toZ-ofZ (f .a), toZ-ofZ (f .l), toZ-ofZ (f .b), toZ-ofZ (f .m), toZ-ofZ (f .c), toZ-ofZ (ka c), toZ-ofZ (lb c), toZ-ofZ (mc c), toZ-ofZ (two c), toZ-ofZ (three c))
-    (refl, row-small 2097152 1099511627776 (a .k) (a .l) (a .m) (a .a) (a .b) (a .c) (p .0 .0) (p .0 .1 .0) (p .0 .1 .1) (p .1 .0) (p .1 .1 .0) (p .1 .1 .1))
+    (refl, row-small 2097152 549755846656 (a .k) (a .l) (a .m) (a .a) (a .b) (a .c) (p .0 .0) (p .0 .1 .0) (p .0 .1 .1) (p .1 .0) (p .1 .1 .0) (p .1 .1 .1))
 
 pub row-spec : {M : Type 1} → statement M
 row-spec =
