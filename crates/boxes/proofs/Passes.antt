@@ -10,11 +10,13 @@ use lib.Dec.{eqb}
 use Rattle.laws.proofs.Choices.{cond-cond, cond-id}
 use Rattle.packets.specs.declared.Head.{Head}
 use Rattle.packets.specs.Packets.{Packet, packet, mineFrom, Met}
-use Rattle.packets.proofs.Walking.{part-length}
+use Rattle.packets.specs.Walk.{stepsFrom, walkFrom, walk, ending}
+use Rattle.packets.proofs.Walking.{part-length, walk-on}
 use Rattle.numbers.specs.Numbers.{numbers}
 use Rattle.boxes.specs.Box.{alike, agree, total}
 use Rattle.boxes.specs.Order.{inOrder}
-use Rattle.boxes.specs.Pass.{mineOf, Scanned}
+use Rattle.boxes.specs.Pass.{mineOf, Scanned, foundMore}
+use Rattle.boxes.specs.declared.Scan.{Scan}
 
 -- counts, totals and tests of what was met and what is left
 record Scanning (all rest : List Packet) (h : Head) (n tot : ℕ) (ag ord : Bool) : Type 0 where
@@ -34,37 +36,40 @@ scan-more {all} {r} {p} {h} {n} {tot} {ag} {ord} s = record {
       ∙ cond-cond ord (eqb (p .head .number) (n + 1)) (inOrder (suc (n + 1)) (numbers r)) ∙ s .orders;
 }
 
-pub record Passing (file : List ℕ) (kind instance : ℕ) (h : Head) (at n tot : ℕ) (ag ord : Bool) : Type 0 where
-  scanning : Scanning (mineOf file kind instance) (mineFrom file kind instance at) h n tot ag ord
-  pub before : (n ≤ at) × (tot ≤ at)
-  pub few : (n ≤ length file) × (tot ≤ length file)
+-- a pass that has found so much: the packets behind its end are left, and the walk goes well until there
+pub record Passing (file : List ℕ) (kind instance : ℕ) (h : Head) (s : Scan) : Type 0 where
+  scanning : Scanning (mineOf file kind instance) (mineFrom file kind instance (s .end)) h (s .n) (s .total) (s .agree) (s .ordered)
+  pub before : (s .n ≤ s .end) × (s .total ≤ s .end)
+  same : ending (stepsFrom file 2) ≡ ending (stepsFrom file (s .end))
 
-pub pass-start : (file : List ℕ) (kind instance : ℕ) (h : Head) → Passing file kind instance h 2 0 0 true true
-pass-start file kind instance h =
-    record { scanning = record { lengths = omega arith; totals = omega arith; agrees = refl; orders = refl }; before = omega arith; few = omega arith }
+module _ (file : List ℕ) (kind instance : ℕ) (h : Head) where
+  pub pass-start : Passing file kind instance h (record { n = 0; total = 0; agree = true; ordered = true; end = 2 })
+  pass-start = record { scanning = record { lengths = omega arith; totals = omega arith; agrees = refl; orders = refl }; before = omega arith; same = refl }
 
-pub pass-turn : {file : List ℕ} {kind instance : ℕ} {h : Head} {at n tot : ℕ} {ag ord : Bool} → Passing file kind instance h at n tot ag ord
-    → {head : Head} {start len next : ℕ} → Met file kind instance at head start len next → {ag′ ord′ : Bool}
-    → ag′ ≡ cond ag (alike h head) false → ord′ ≡ cond ord (eqb (head .number) (n + 1)) false
-    → Passing file kind instance h next (n + 1) (tot + len) ag′ ord′
-pass-turn {file} {kind} {instance} {h} {at} {n} {tot} {ag} {ord} s {head} {start} {len} {next} m {ag′} {ord′} a o =
-    let z : length (take len (drop start file)) ≡ len = part-length file start len (omega arith) in
-    let g : Scanning (mineOf file kind instance) (packet file head start len ∷ mineFrom file kind instance next) h n tot ag ord =
-    subst (λ (x : List Packet). Scanning (mineOf file kind instance) x h n tot ag ord) (m .list) (s .scanning) in
-    record {
-      scanning = rw (a, o) (rw z at (scan-more g));
-      before = omega arith;
-      few = omega arith;
-    }
+  module _ {s : Scan} (p : Passing file kind instance h s) where
+    pub pass-turn : {head : Head} {start len next : ℕ} → Met file kind instance (s .end) head start len next → {s′ : Scan} → s′ ≡ foundMore s h head len next
+        → Passing file kind instance h s′
+    pass-turn {head} {start} {len} {next} m e =
+        let z : length (take len (drop start file)) ≡ len = part-length file start len (omega arith) in
+        let g : Scanning (mineOf file kind instance) (packet file head start len ∷ mineFrom file kind instance next) h (s .n) (s .total) (s .agree) (s .ordered) =
+        subst (λ (x : List Packet). Scanning (mineOf file kind instance) x h (s .n) (s .total) (s .agree) (s .ordered)) (m .list) (p .scanning) in
+        rw e (record {
+          scanning = rw z at (scan-more g);
+          before = omega arith;
+          same = p .same ∙ m .same;
+        })
 
-pub pass-end : {file : List ℕ} {kind instance : ℕ} {h : Head} {at n tot : ℕ} {ag ord : Bool} → Passing file kind instance h at n tot ag ord
-    → mineFrom file kind instance at ≡ [] → Scanned (mineOf file kind instance) h (record { n = n; total = tot; agree = ag; ordered = ord })
-unfolding total agree numbers inOrder
-pass-end {file} {kind} {instance} {h} {at} {n} {tot} {ag} {ord} s e =
-    let g : Scanning (mineOf file kind instance) [] h n tot ag ord = subst (λ (x : List Packet). Scanning (mineOf file kind instance) x h n tot ag ord) e (s .scanning) in
-    record {
-      lengths = omega (arith, g .lengths);
-      totals = omega (arith, g .totals);
-      agrees = sym (cond-id ag) ∙ g .agrees;
-      orders = sym (cond-id ord) ∙ g .orders;
-    }
+    pub pass-end : mineFrom file kind instance (s .end) ≡ [] → Scanned (mineOf file kind instance) h s
+    unfolding total agree numbers inOrder
+    pass-end e =
+        let g : Scanning (mineOf file kind instance) [] h (s .n) (s .total) (s .agree) (s .ordered) =
+        subst (λ (x : List Packet). Scanning (mineOf file kind instance) x h (s .n) (s .total) (s .agree) (s .ordered)) e (p .scanning) in
+        record {
+          lengths = omega (arith, g .lengths);
+          totals = omega (arith, g .totals);
+          agrees = sym (cond-id (s .agree)) ∙ g .agrees;
+          orders = sym (cond-id (s .ordered)) ∙ g .orders;
+        }
+
+    pub pass-ending : ending (walkFrom file (s .end)) ≡ ending (walk file)
+    pass-ending = walk-on file (s .end) (p .same)
