@@ -9,21 +9,22 @@ ghost use mathlib.Core.Path.{_≡_};
 ghost use mathlib.Core.Bool.{false, cond};
 ghost use Prim.Native.Nat.{_+_, _≤_, _<_};
 ghost use lib.ListN.{length, take, drop};
-ghost use lib.Dec.{eqb};
 ghost use Rattle.answers.specs.Verdict.{Meets, Tried, refusal};
 ghost use Rattle.packets.specs.Walk.{walk, walkFrom, ending};
 ghost use Rattle.numbers.specs.Numbers.{numbers};
 ghost use Rattle.boxes.specs.Box.{assembled, joinedFrom, joined, boxBytes};
 ghost use Rattle.boxes.specs.Box.{alike as Box·alike, contents as Box·contents};
-ghost use Rattle.boxes.specs.Order.{inOrder, payloads};
+ghost use Rattle.boxes.specs.Order.{inOrder, rises, payloads};
 ghost use Rattle.boxes.specs.Pass.{mineOf, Scanned, foundMore, faultOf, putAt, Numbered, Windowed, ReadyIs};
 
-// What one pass over the packets of a type and instance finds.
+// What one pass over the packets of a type and instance finds. `above` is the number behind the last one, `end` where it stopped.
 pub struct Scan {
     pub n: usize,
     pub total: usize,
     pub agree: bool,
     pub ordered: bool,
+    pub rising: bool,
+    pub above: usize,
     pub end: usize,
 }
 
@@ -58,11 +59,11 @@ fn alike(flag: bool, h: Head, g: Head) -> bool
     }
 }
 
-// The flag, and whether two numbers are equal.
-fn also(flag: bool, a: usize, b: usize) -> bool
-    ensures { λ r. ⌜ r ≡ cond flag (eqb a b) false ⌝ }
+// The flag, and the test.
+fn both(flag: bool, test: bool) -> bool
+    ensures { λ r. ⌜ r ≡ cond flag test false ⌝ }
 {
-    if flag { a == b } else { false }
+    if flag { test } else { false }
 }
 
 // What a pass has found behind one packet more.
@@ -71,11 +72,14 @@ fn found_more(s: Scan, h: Head, head: Head, len: usize, next: usize) -> Scan
     ensures { λ r. ⌜ r ≡ foundMore s h head len next ⌝ }
 {
     let n = s.n + 1;
+    let number = head.number as usize;
     Scan {
         n,
         total: s.total + len,
         agree: alike(s.agree, h, head),
-        ordered: also(s.ordered, head.number as usize, n),
+        ordered: both(s.ordered, number == n),
+        rising: both(s.rising, s.above <= number),
+        above: number + 1,
         end: next,
     }
 }
@@ -90,6 +94,8 @@ fn scan_all(file: &[u8], kind: u32, instance: u16, h: Head) -> Scan
         total: 0,
         agree: true,
         ordered: true,
+        rising: true,
+        above: 0,
         end: 2,
     };
     loop {
@@ -116,21 +122,26 @@ fn scan_all(file: &[u8], kind: u32, instance: u16, h: Head) -> Scan
     }
 }
 
-// What is wrong with the sequence numbers of n packets. Packets that stand in order need no search, and where none of 1 to n is
-// missing none stands twice.
-fn fault_of(file: &[u8], kind: u32, instance: u16, n: usize, ordered: bool) -> Fault
-    requires { ⌜ (n ≡ length (mineOf (now file) kind instance)) × (ordered ≡ inOrder 1 (numbers (mineOf (now file) kind instance))) ⌝ }
+// What is wrong with the sequence numbers of the packets. Packets that stand in order need no search, where none of 1 to n is
+// missing none stands twice, and of numbers that rise none does.
+fn fault_of(file: &[u8], kind: u32, instance: u16, h: Head, c: Scan) -> Fault
+    requires { ⌜ Scanned (mineOf (now file) kind instance) h c ⌝ }
     ensures { λ r. ⌜ r ≡ faultOf (numbers (mineOf (now (file .entry)) kind instance)) ⌝ }
 {
-    if ordered {
+    if c.ordered {
         return Fault::Fine;
     }
-    match windows::first_missing(file, kind, instance, n) {
+    match windows::first_missing(file, kind, instance, c.n) {
         Found::Nothing => Fault::Fine,
-        Found::At(m) => match numbers::first_twice(file, kind, instance) {
-            Found::At(q) => Fault::Twice(q),
-            Found::Nothing => Fault::Missing(m),
-        },
+        Found::At(m) => {
+            if c.rising {
+                return Fault::Missing(m);
+            }
+            match numbers::first_twice(file, kind, instance) {
+                Found::At(q) => Fault::Twice(q),
+                Found::Nothing => Fault::Missing(m),
+            }
+        }
     }
 }
 
@@ -162,7 +173,7 @@ fn checked(file: &[u8], kind: u32, instance: u16, h: Head, c: Scan, room: usize)
     if !c.agree {
         return not(5, 0);
     }
-    match fault_of(file, kind, instance, n, ordered) {
+    match fault_of(file, kind, instance, h, c) {
         Fault::Twice(q) => not(6, q),
         Fault::Missing(q) => not(7, q),
         Fault::Fine => {
