@@ -92,9 +92,12 @@ module _ (file : List ℕ) (kind instance : ℕ) where
   pub searched-twice : {t : Found} {q : ℕ} → t ≡ firstTwice (numbersFrom file kind instance 2) → t ≡ At q → Twice q ≡ faultOf (numbers (mineOf file kind instance))
   searched-twice f g = sym (fault-twice _ (sym twice-of ∙ sym f ∙ g))
 
-  pub searched-missing : {n : ℕ} {m t : Found} {q : ℕ} → n ≡ length (mineOf file kind instance) → m ≡ missingFrom n 1 (numbersFrom file kind instance 2) → m ≡ At q
-      → t ≡ firstTwice (numbersFrom file kind instance 2) → t ≡ Nothing → Missing q ≡ faultOf (numbers (mineOf file kind instance))
-  searched-missing {n} e f g h i = sym (fault-missing _ (sym twice-of ∙ sym h ∙ i) (sym (missing-of n e) ∙ sym f ∙ g))
+  pub searched-missing : {n : ℕ} {m : Found} {q : ℕ} → n ≡ length (mineOf file kind instance) → m ≡ missingFrom n 1 (numbersFrom file kind instance 2) → m ≡ At q
+      → firstTwice (numbers (mineOf file kind instance)) ≡ Nothing → Missing q ≡ faultOf (numbers (mineOf file kind instance))
+  searched-missing {n} e f g t = sym (fault-missing _ t (sym (missing-of n e) ∙ sym f ∙ g))
+
+  pub searched-once : {t : Found} → t ≡ firstTwice (numbersFrom file kind instance 2) → t ≡ Nothing → firstTwice (numbers (mineOf file kind instance)) ≡ Nothing
+  searched-once h i = sym twice-of ∙ sym h ∙ i
 
 -- ---- the verdict for a list of packets
 

@@ -10,7 +10,7 @@ use lib.Dec.{eqb, leb}
 use borrow.Author.Tests.{eq-eqb, ne-eqb, eqb-true, eqb-false, le-leb, leb-true}
 use Rattle.laws.specs.declared.Found.{Found}
 use Rattle.laws.specs.declared.Found.the-variants.{At, Nothing}
-use Rattle.laws.proofs.Choices.{either, cond-left, cond-right, cond-swap}
+use Rattle.laws.proofs.Choices.{either, by-test, cond-left, cond-right, cond-swap}
 use Rattle.answers.specs.Verdict.{Verdict, given, refused, need, unless, fitting}
 use Rattle.answers.specs.declared.Refusal.{Refusal}
 use Rattle.answers.specs.declared.Outcome.{Outcome}
@@ -23,7 +23,7 @@ use Rattle.numbers.specs.Numbers.{numbers, count, firstTwice, firstMissing}
 use Rattle.numbers.proofs.Counts.{numbers-append, count-grows}
 use Rattle.numbers.proofs.Smallest.{never-twice, twice-none, never-missing, missing-none}
 use Rattle.boxes.specs.Box.{alike, agree, contents, total, numbered, joinedFrom, joined, assembled, assemble, afterWalk, boxBytes}
-use Rattle.boxes.specs.Order.{Reordered, none, keep, swap, both, counting, payloads, Makes, HandedOut, inOrder}
+use Rattle.boxes.specs.Order.{Reordered, none, keep, swap, both, counting, payloads, Makes, HandedOut, inOrder, rises}
 
 -- ---- what an ordering keeps
 
@@ -303,6 +303,22 @@ module _ (ps : List Packet) (h : inOrder 1 (numbers ps) ≡ true) where
 
   pub order-joined : joined ps ≡ payloads ps
   order-joined = reads-joined ps ps (self ps) in-order
+
+-- numbers that rise: none stands twice
+rises-from : (ns : List ℕ) (a : ℕ) → rises a ns ≡ true → (q : ℕ) → (count q ns ≤ 1) × (q < a → count q ns ≡ 0)
+unfolding rises count
+rises-from [] a h q = (omega arith, λ l. refl)
+rises-from (x ∷ r) a h q =
+    let low : a ≤ x = leb-true a x (cond-left (leb a x) (rises (suc x) r) h) in
+    step (rises-from r (suc x) (cond-right (leb a x) (rises (suc x) r) h) q) low
+  where
+    step : (count q r ≤ 1) × (q < suc x → count q r ≡ 0) → a ≤ x → (cond (eqb x q) (suc (count q r)) (count q r) ≤ 1) × (q < a → cond (eqb x q) (suc (count q r)) (count q r) ≡ 0)
+    step i low = by-test (λ (k : ℕ). (k ≤ 1) × (q < a → k ≡ 0)) (eqb x q)
+        (λ e. let z = eqb-true x q e in let n = i .1 (omega arith) in (omega arith, λ l. absurd (omega arith)))
+        (λ e. (i .0, λ l. i .1 (omega arith)))
+
+pub rises-twice : (ns : List ℕ) → rises 0 ns ≡ true → firstTwice ns ≡ Nothing
+rises-twice ns h = twice-none ns (λ q. rises-from ns 0 h q .0)
 
 -- ---- the law, for a list of packets
 

@@ -5,7 +5,7 @@ use mathlib.Core.Path.{_≡_}
 use mathlib.Core.List.{List, [], _∷_, _++_}
 use mathlib.Core.Bool.{Bool, true, false, cond}
 use lib.ListN.{length}
-use lib.Dec.{eqb}
+use lib.Dec.{eqb, leb}
 use Rattle.answers.specs.declared.Outcome.the-variants.{Given}
 use Rattle.packets.specs.declared.Head.{Head}
 use Rattle.packets.specs.Walk.{walk, ending}
@@ -47,7 +47,11 @@ pub record HandedOut (file : List ℕ) (kind instance room : ℕ) (b : List ℕ)
   pub bytes : b ≡ payloads order
   pub fits : length b ≤ room
 
--- the test of a pass in file order
+-- the tests of a pass in file order: the numbers read q, q + 1, ..; each is above those before it, the first at least a
 unfoldable pub inOrder : ℕ → List ℕ → Bool
 inOrder q [] = true
 inOrder q (x ∷ r) = cond (eqb x q) (inOrder (suc q) r) false
+
+unfoldable pub rises : ℕ → List ℕ → Bool
+rises a [] = true
+rises a (x ∷ r) = cond (leb a x) (rises (suc x) r) false

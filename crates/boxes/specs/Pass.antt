@@ -2,8 +2,9 @@
 use Prim.Native.Nat.{ℕ, _+_, _≤_}
 use mathlib.Core.Path.{_≡_}
 use mathlib.Core.List.{List, _++_}
-use mathlib.Core.Bool.{Bool}
+use mathlib.Core.Bool.{Bool, false, cond}
 use lib.ListN.{length, take, drop}
+use lib.Dec.{eqb, leb}
 use Rattle.laws.specs.declared.Found.{Found}
 use Rattle.laws.specs.declared.Found.the-variants.{At, Nothing}
 use Rattle.answers.specs.Verdict.{Verdict, given, refused}
@@ -15,8 +16,8 @@ use Rattle.boxes.specs.declared.Ready.{Ready}
 use Rattle.boxes.specs.declared.Ready.the-variants.{Not, Yes}
 use Rattle.boxes.specs.declared.Fault.{Fault}
 use Rattle.boxes.specs.declared.Fault.the-variants.{Fine, Twice, Missing}
-use Rattle.boxes.specs.Box.{agree, total, joinedFrom, joined}
-use Rattle.boxes.specs.Order.{inOrder}
+use Rattle.boxes.specs.Box.{alike, agree, total, joinedFrom, joined}
+use Rattle.boxes.specs.Order.{inOrder, rises}
 
 -- the packets of a type and instance, of a whole file whose walk ends well
 abbrev pub mineOf : List ℕ → ℕ → ℕ → List Packet
@@ -28,6 +29,19 @@ pub record Scanned (ps : List Packet) (h : Head) (r : Scan) : Type 0 where
   pub totals : r .total ≡ total ps
   pub agrees : r .agree ≡ agree h ps
   pub orders : r .ordered ≡ inOrder 1 (numbers ps)
+  pub rising : r .rising ≡ rises 0 (numbers ps)
+
+-- what a pass has found behind one packet more, which has a head, len bytes of payload and the next segment at `next`
+abbrev pub foundMore : Scan → Head → Head → ℕ → ℕ → Scan
+foundMore s h head len next = record {
+  n = s .n + 1;
+  total = s .total + len;
+  agree = cond (s .agree) (alike h head) false;
+  ordered = cond (s .ordered) (eqb (head .number) (s .n + 1)) false;
+  rising = cond (s .rising) (leb (s .above) (head .number)) false;
+  above = head .number + 1;
+  end = next;
+}
 
 -- what is wrong with sequence numbers: 6 before 7
 abbrev pub faultBy : Found → Found → Fault

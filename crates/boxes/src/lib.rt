@@ -9,20 +9,23 @@ ghost use mathlib.Core.Path.{_≡_};
 ghost use mathlib.Core.Bool.{false, cond};
 ghost use Prim.Native.Nat.{_+_, _≤_, _<_};
 ghost use lib.ListN.{length, take, drop};
-ghost use lib.Dec.{eqb};
 ghost use Rattle.answers.specs.Verdict.{Meets, Tried, refusal};
+ghost use Rattle.packets.specs.Walk.{walk, walkFrom, ending};
 ghost use Rattle.numbers.specs.Numbers.{numbers};
 ghost use Rattle.boxes.specs.Box.{assembled, joinedFrom, joined, boxBytes};
 ghost use Rattle.boxes.specs.Box.{alike as Box·alike, contents as Box·contents};
-ghost use Rattle.boxes.specs.Order.{inOrder, payloads};
-ghost use Rattle.boxes.specs.Pass.{mineOf, Scanned, faultOf, putAt, Numbered, Windowed, ReadyIs};
+ghost use Rattle.boxes.specs.Order.{inOrder, rises, payloads};
+ghost use Rattle.boxes.specs.Pass.{mineOf, Scanned, foundMore, faultOf, putAt, Numbered, Windowed, ReadyIs};
 
-// What one pass over the packets of a type and instance finds.
+// What one pass over the packets of a type and instance finds. `above` is the number behind the last one, `end` where it stopped.
 pub struct Scan {
     pub n: usize,
     pub total: usize,
     pub agree: bool,
     pub ordered: bool,
+    pub rising: bool,
+    pub above: usize,
+    pub end: usize,
 }
 
 // What is wrong with the sequence numbers.
@@ -56,64 +59,89 @@ fn alike(flag: bool, h: Head, g: Head) -> bool
     }
 }
 
-// The flag, and whether two numbers are equal.
-fn also(flag: bool, a: usize, b: usize) -> bool
-    ensures { λ r. ⌜ r ≡ cond flag (eqb a b) false ⌝ }
+// The flag, and the test.
+fn both(flag: bool, test: bool) -> bool
+    ensures { λ r. ⌜ r ≡ cond flag test false ⌝ }
 {
-    if flag { a == b } else { false }
+    if flag { test } else { false }
+}
+
+// What a pass has found behind one packet more.
+fn found_more(s: Scan, h: Head, head: Head, len: usize, next: usize) -> Scan
+    requires { ⌜ (s .n < next) × (s .total + len ≤ next) ⌝ }
+    ensures { λ r. ⌜ r ≡ foundMore s h head len next ⌝ }
+{
+    let n = s.n + 1;
+    let number = head.number as usize;
+    Scan {
+        n,
+        total: s.total + len,
+        agree: alike(s.agree, h, head),
+        ordered: both(s.ordered, number == n),
+        rising: both(s.rising, s.above <= number),
+        above: number + 1,
+        end: next,
+    }
 }
 
 // One pass over the packets of a type and instance, of which the first has the head h.
 fn scan_all(file: &[u8], kind: u32, instance: u16, h: Head) -> Scan
     ensures { λ r. ⌜ Scanned (mineOf (now (file .entry)) kind instance) h r ⌝ }
-    ensures { λ r. ⌜ (r .n ≤ length (now (file .entry))) × (r .total ≤ length (now (file .entry))) ⌝ }
+    ensures { λ r. ⌜ ending (walkFrom (now (file .entry)) (r .end)) ≡ ending (walk (now (file .entry))) ⌝ }
 {
-    let mut at: usize = 2;
-    let mut n: usize = 0;
-    let mut total: usize = 0;
-    let mut agree = true;
-    let mut ordered = true;
+    let mut s = Scan {
+        n: 0,
+        total: 0,
+        agree: true,
+        ordered: true,
+        rising: true,
+        above: 0,
+        end: 2,
+    };
     loop {
-        match packets::next_mine(file, kind, instance, at) {
-            Next::Gone => {
-                return Scan {
-                    n,
-                    total,
-                    agree,
-                    ordered,
-                };
-            }
-            Next::Mine {
-                head,
-                start: _,
-                len,
-                next,
-            } => {
-                n += 1;
-                total += len;
-                agree = alike(agree, h, head);
-                ordered = also(ordered, head.number as usize, n);
-                at = next;
+        let at = s.end;
+        let here = packets::mine_here(file, kind, instance, at);
+        if 0 < here {
+            let head = packets::head_at(file, at + 1);
+            s = found_more(s, h, head, here - 18, at + 2 + here);
+        } else {
+            match packets::next_mine(file, kind, instance, at) {
+                Next::Gone => {
+                    return s;
+                }
+                Next::Mine {
+                    head,
+                    start: _,
+                    len,
+                    next,
+                } => {
+                    s = found_more(s, h, head, len, next);
+                }
             }
         }
     }
 }
 
-// What is wrong with the sequence numbers of n packets. Packets that stand in order need no search, and where none of 1 to n is
-// missing none stands twice.
-fn fault_of(file: &[u8], kind: u32, instance: u16, n: usize, ordered: bool) -> Fault
-    requires { ⌜ (n ≡ length (mineOf (now file) kind instance)) × (ordered ≡ inOrder 1 (numbers (mineOf (now file) kind instance))) ⌝ }
+// What is wrong with the sequence numbers of the packets. Packets that stand in order need no search, where none of 1 to n is
+// missing none stands twice, and of numbers that rise none does.
+fn fault_of(file: &[u8], kind: u32, instance: u16, h: Head, c: Scan) -> Fault
+    requires { ⌜ Scanned (mineOf (now file) kind instance) h c ⌝ }
     ensures { λ r. ⌜ r ≡ faultOf (numbers (mineOf (now (file .entry)) kind instance)) ⌝ }
 {
-    if ordered {
+    if c.ordered {
         return Fault::Fine;
     }
-    match windows::first_missing(file, kind, instance, n) {
+    match windows::first_missing(file, kind, instance, c.n) {
         Found::Nothing => Fault::Fine,
-        Found::At(m) => match numbers::first_twice(file, kind, instance) {
-            Found::At(q) => Fault::Twice(q),
-            Found::Nothing => Fault::Missing(m),
-        },
+        Found::At(m) => {
+            if c.rising {
+                return Fault::Missing(m);
+            }
+            match numbers::first_twice(file, kind, instance) {
+                Found::At(q) => Fault::Twice(q),
+                Found::Nothing => Fault::Missing(m),
+            }
+        }
     }
 }
 
@@ -135,17 +163,17 @@ fn not(number: u32, place: usize) -> Ready
 }
 
 // Whether the packets of a type and instance, of which the first has the head h, make a box that fits into so many bytes.
-fn checked(file: &[u8], kind: u32, instance: u16, h: Head, room: usize) -> Ready
+fn checked(file: &[u8], kind: u32, instance: u16, h: Head, c: Scan, room: usize) -> Ready
+    requires { ⌜ Scanned (mineOf (now file) kind instance) h c ⌝ }
     ensures { λ r. ⌜ ReadyIs (mineOf (now (file .entry)) kind instance) room (assembled room h (mineOf (now (file .entry)) kind instance)) r ⌝ }
 {
-    let c = scan_all(file, kind, instance, h);
     let n = c.n;
     let total = c.total;
     let ordered = c.ordered;
     if !c.agree {
         return not(5, 0);
     }
-    match fault_of(file, kind, instance, n, ordered) {
+    match fault_of(file, kind, instance, h, c) {
         Fault::Twice(q) => not(6, q),
         Fault::Missing(q) => not(7, q),
         Fault::Fine => {
@@ -164,17 +192,23 @@ fn checked(file: &[u8], kind: u32, instance: u16, h: Head, room: usize) -> Ready
 fn judged(file: &[u8], kind: u32, instance: u16, room: usize) -> Ready
     ensures { λ r. ⌜ ReadyIs (mineOf (now (file .entry)) kind instance) room (boxBytes (now (file .entry)) kind instance room) r ⌝ }
 {
-    match packets::walk_all(file) {
-        Outcome::Refused(r) => Ready::Not(r),
-        Outcome::Given(_) => match packets::next_mine(file, kind, instance, 2) {
-            Next::Gone => not(4, 0),
-            Next::Mine {
-                head,
-                start: _,
-                len: _,
-                next: _,
-            } => checked(file, kind, instance, head, room),
+    match packets::next_mine(file, kind, instance, 2) {
+        Next::Gone => match packets::walk_all(file) {
+            Outcome::Refused(r) => Ready::Not(r),
+            Outcome::Given(_) => not(4, 0),
         },
+        Next::Mine {
+            head,
+            start: _,
+            len: _,
+            next: _,
+        } => {
+            let c = scan_all(file, kind, instance, head);
+            match packets::walk_on(file, c.end) {
+                Outcome::Refused(r) => Ready::Not(r),
+                Outcome::Given(_) => checked(file, kind, instance, head, c, room),
+            }
+        }
     }
 }
 
@@ -198,19 +232,26 @@ fn put_in_order(file: &[u8], kind: u32, instance: u16, destination: &mut [u8])
     let mut at: usize = 2;
     let mut to: usize = 0;
     loop {
-        match packets::next_mine(file, kind, instance, at) {
-            Next::Gone => {
-                return;
-            }
-            Next::Mine {
-                head: _,
-                start,
-                len,
-                next,
-            } => {
-                copy_part(file, start, len, destination, to);
-                to += len;
-                at = next;
+        let here = packets::mine_here(file, kind, instance, at);
+        if 0 < here {
+            copy_part(file, at + 20, here - 18, destination, to);
+            to += here - 18;
+            at = at + 2 + here;
+        } else {
+            match packets::next_mine(file, kind, instance, at) {
+                Next::Gone => {
+                    return;
+                }
+                Next::Mine {
+                    head: _,
+                    start,
+                    len,
+                    next,
+                } => {
+                    copy_part(file, start, len, destination, to);
+                    to += len;
+                    at = next;
+                }
             }
         }
     }

@@ -1,6 +1,7 @@
 -- Laws of a step and of the walk: each step goes forward, and the walk is its first step and the walk from there. Assumes nothing.
 use Prim.Native.Nat.{ℕ, zero, suc, _+_, _-_, _≤_, _<_}
 use mathlib.Core.Path.{_≡_, refl, ap, sym, subst, _∙_}
+use mathlib.Core.Logic.{⊎-elim}
 use mathlib.Core.List.{List, [], _∷_}
 use mathlib.Core.Bool.{Bool, true, false}
 use native.Mathlib.Omega.{arith}
@@ -8,7 +9,7 @@ use lib.ListN.{length, getD, take, drop, length-drop}
 use lib.Seq.{length-take-le}
 use lib.Dec.{eqb, ltb, leb}
 use borrow.Author.Tests.{le-leb, ltb-false, leb-false}
-use Rattle.laws.proofs.Choices.{by-test}
+use Rattle.laws.proofs.Choices.{either, by-test}
 use Rattle.answers.specs.Verdict.{refusal}
 use Rattle.answers.specs.declared.Refusal.{Refusal}
 use Rattle.answers.specs.declared.Outcome.the-variants.{Given, Refused}
@@ -17,7 +18,7 @@ use Rattle.packets.specs.declared.Step.{Step}
 use Rattle.packets.specs.declared.Step.the-variants.{End, Skip, Meet, Broken}
 use Rattle.packets.specs.declared.Next.{Next}
 use Rattle.packets.specs.declared.Next.the-variants.{Gone, Mine}
-use Rattle.packets.specs.Walk.{be16, headAt, ones, barred, tagged, packetAt, wholeAt, sizedAt, markedAt, stepAt, onward, stepsIn, stepsFrom, begins, walk, ending}
+use Rattle.packets.specs.Walk.{be16, headAt, ones, barred, tagged, packetAt, wholeAt, sizedAt, markedAt, stepAt, onward, stepsIn, stepsFrom, begins, walkFrom, walk, ending}
 use Rattle.packets.specs.Packets.{packet, packetsIn, packets, isMine, mine, mineFrom, Met, NextIs}
 use Rattle.packets.proofs.Runs.{ones-end}
 
@@ -171,13 +172,27 @@ module _ (file : List ℕ) (kind instance at : ℕ) where
 
 -- ---- the whole file
 
-pub walk-begun : (file : List ℕ) → begins file ≡ true → walk file ≡ stepsFrom file 2
-unfolding walk
-walk-begun file h = rw h
+module _ (file : List ℕ) (from : ℕ) where
+  pub on-begun : begins file ≡ true → walkFrom file from ≡ stepsFrom file from
+  on-begun h = rw h
 
-pub walk-not : (file : List ℕ) → begins file ≡ false → ending (walk file) ≡ Refused (refusal 1 0)
-unfolding walk ending
-walk-not file h = rw h
+  pub on-not : begins file ≡ false → ending (walkFrom file from) ≡ Refused (refusal 1 0)
+  unfolding ending
+  on-not h = rw h
+
+module _ (file : List ℕ) where
+  pub walk-begun : begins file ≡ true → walk file ≡ stepsFrom file 2
+  unfolding walk
+  walk-begun = on-begun file 2
+
+  pub walk-not : begins file ≡ false → ending (walk file) ≡ Refused (refusal 1 0)
+  unfolding walk
+  walk-not = on-not file 2
+
+  -- a walk on ends as the whole one, where all went well until there
+  pub walk-on : (from : ℕ) → ending (stepsFrom file 2) ≡ ending (stepsFrom file from) → ending (walkFrom file from) ≡ ending (walk file)
+  walk-on from e =
+      ⊎-elim (λ b. ap ending (on-begun file from b) ∙ sym e ∙ sym (ap ending (walk-begun b))) (λ b. on-not file from b ∙ sym (walk-not b)) (either (begins file))
 
 -- a walk that ends well gives the place 0
 pub ended : (steps : List Step) (n : ℕ) → ending steps ≡ Given n → n ≡ 0

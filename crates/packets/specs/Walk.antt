@@ -89,9 +89,13 @@ stepsFrom file at = stepsIn (length file - at) file at
 unfoldable pub begins : List ℕ → Bool
 begins file = cond (ltb (length file) 2) false (cond (eqb (getD file 0 0) 255) (eqb (getD file 1 0) 216) false)
 
--- "The walk starts after FF D8"; 1, "does not begin FF D8"
+-- 1, "does not begin FF D8"; else the steps from a position on
+abbrev pub walkFrom : List ℕ → ℕ → List Step
+walkFrom file from = cond (begins file) (stepsFrom file from) (Broken (refusal 1 0) ∷ [])
+
+-- "The walk starts after FF D8"
 unfoldable pub walk : List ℕ → List Step
-walk file = cond (begins file) (stepsFrom file 2) (Broken (refusal 1 0) ∷ [])
+walk file = walkFrom file 2
 
 -- how a walk ended: well, or with the refusal of its last step (a walk has a last step, so the first line is never met)
 unfoldable pub ending : List Step → Outcome

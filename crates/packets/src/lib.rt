@@ -2,12 +2,12 @@
 use answers::Outcome;
 use answers::Refusal;
 ghost use mathlib.Core.Path.{_≡_};
-ghost use mathlib.Core.Bool.{false};
+ghost use mathlib.Core.Bool.{true, false};
 ghost use Prim.Native.Nat.{_+_, _≤_, _<_};
 ghost use lib.ListN.{length, drop};
-ghost use Rattle.packets.specs.Walk.{ones, headAt, packetAt, wholeAt, sizedAt, stepAt, stepsFrom, walk, ending};
+ghost use Rattle.packets.specs.Walk.{ones, headAt, packetAt, wholeAt, sizedAt, stepAt, stepsFrom, walk, walkFrom, ending};
 ghost use Rattle.packets.specs.Walk.{be16 as Walk·be16, be32 as Walk·be32, barred as Walk·barred, tagged as Walk·tagged, begins as Walk·begins};
-ghost use Rattle.packets.specs.Packets.{isMine, NextIs};
+ghost use Rattle.packets.specs.Packets.{isMine, NextIs, Tagged, Packed, MineHere};
 ghost use Rattle.answers.specs.Verdict.{refusal};
 
 // What the head of a packet states. Of the stated length of its box, `heading` bytes are the head of the box.
@@ -108,7 +108,7 @@ fn tagged(file: &[u8], m: usize, len: usize) -> bool
 }
 
 // What the head of the packet behind the marker at m states.
-fn head_at(file: &[u8], m: usize) -> Head
+pub fn head_at(file: &[u8], m: usize) -> Head
     requires { ⌜ m + 18 < length (now file) ⌝ }
     ensures { λ r. ⌜ r ≡ headAt (now (file .entry)) m ⌝ }
 {
@@ -176,8 +176,8 @@ fn sized_at(file: &[u8], at: usize, m: usize) -> Step
     whole_at(file, at, m, len)
 }
 
-// What stands at a position of the file.
-pub fn step_at(file: &[u8], at: usize) -> Step
+// What stands at a position of the file, whatever it is.
+fn full_step(file: &[u8], at: usize) -> Step
     ensures { λ r. ⌜ r ≡ stepAt (now (file .entry)) at ⌝ }
 {
     let m = past_ones(file, at);
@@ -195,6 +195,66 @@ pub fn step_at(file: &[u8], at: usize) -> Step
         return broken(2, at);
     }
     sized_at(file, at, m)
+}
+
+// Whether FF EB stand at a position, and 4A 50 behind a length.
+fn marked_here(file: &[u8], at: usize) -> bool
+    requires { ⌜ at + 19 < length (now file) ⌝ }
+    ensures { λ r. ⌜ (r ≡ true → Tagged (now (file .entry)) at) ⌝ }
+{
+    if file[at] != 255 {
+        return false;
+    }
+    if file[at + 1] != 235 {
+        return false;
+    }
+    if file[at + 4] != 74 {
+        return false;
+    }
+    file[at + 5] == 80
+}
+
+// A quick look at the usual case: the length of the segment where a whole packet begins at a position with no fill. 0 says nothing.
+fn packet_here(file: &[u8], at: usize) -> usize
+    ensures { λ r. ⌜ (0 < r → Packed (now (file .entry)) at r) ⌝ }
+{
+    let n = file.len();
+    if n < 20 {
+        return 0;
+    }
+    if n - 20 < at {
+        return 0;
+    }
+    if !marked_here(file, at) {
+        return 0;
+    }
+    let size = be16(file, at + 2) as usize;
+    if size < 18 {
+        return 0;
+    }
+    if n - at - 2 < size {
+        return 0;
+    }
+    if be32(file, at + 12) < 8 {
+        return 0;
+    }
+    size
+}
+
+// What stands at a position of the file, with the quick look first.
+pub fn step_at(file: &[u8], at: usize) -> Step
+    ensures { λ r. ⌜ r ≡ stepAt (now (file .entry)) at ⌝ }
+{
+    let here = packet_here(file, at);
+    if here == 0 {
+        return full_step(file, at);
+    }
+    Step::Meet {
+        head: head_at(file, at + 1),
+        start: at + 20,
+        len: here - 18,
+        next: at + 2 + here,
+    }
 }
 
 fn walk_end(file: &[u8], from: usize) -> Outcome
@@ -237,18 +297,25 @@ fn begins(file: &[u8]) -> bool
     }
 }
 
-// How the walk over a file ends.
-pub fn walk_all(file: &[u8]) -> Outcome
-    ensures { λ r. ⌜ r ≡ ending (walk (now (file .entry))) ⌝ }
+// How the walk over a file ends, from a position on.
+pub fn walk_on(file: &[u8], from: usize) -> Outcome
+    ensures { λ r. ⌜ r ≡ ending (walkFrom (now (file .entry)) from) ⌝ }
 {
     if begins(file) {
-        walk_end(file, 2)
+        walk_end(file, from)
     } else {
         Outcome::Refused(Refusal {
             number: 1,
             place: 0,
         })
     }
+}
+
+// How the walk over a file ends.
+pub fn walk_all(file: &[u8]) -> Outcome
+    ensures { λ r. ⌜ r ≡ ending (walk (now (file .entry))) ⌝ }
+{
+    walk_on(file, 2)
 }
 
 fn is_mine(kind: u32, instance: u16, head: Head) -> bool
@@ -258,6 +325,21 @@ fn is_mine(kind: u32, instance: u16, head: Head) -> bool
         head.instance == instance
     } else {
         false
+    }
+}
+
+// The same quick look for a packet of a type and instance.
+pub fn mine_here(file: &[u8], kind: u32, instance: u16, at: usize) -> usize
+    ensures { λ r. ⌜ (0 < r → MineHere (now (file .entry)) kind instance at r) ⌝ }
+{
+    let len = packet_here(file, at);
+    if len == 0 {
+        return 0;
+    }
+    if is_mine(kind, instance, head_at(file, at + 1)) {
+        len
+    } else {
+        0
     }
 }
 

@@ -1,41 +1,61 @@
 -- `boxes::scan_all` meets its contract: what was met and what is left make the whole.
 use Rattle.packets.proofs.Walking.{met, gone}
-use Rattle.boxes.proofs.Passes.{Passing, pass-start, pass-turn, pass-end}
+use Rattle.boxes.specs.Pass.{foundMore}
+use Rattle.boxes.specs.declared.Scan.{Scan}
+use Rattle.boxes.proofs.Passes.{Passing, pass-start, pass-turn, pass-end, pass-ending}
 use lib.ListN.{length}
 use Prim.Native.Nat.{_-_}
+use mathlib.Core.Path.{ap}
 use native.Mathlib.Omega.{arith}
 use borrow.Author.Needs.{needs}
 use Rattle.boxes.proofs.scan_all.Statement.{statement}
 use Rattle.boxes.proofs.scan_all.Tie as tie
 
 abbrev Inv-loop : tie.InvT-loop
-Inv-loop file kind instance h at₀ n₀ total₀ agree₀ ordered₀ at n total agree ordered = Passing file kind instance h at n total agree ordered
+Inv-loop file kind instance h s₀ s = Passing file kind instance h s
 
 abbrev μ-loop : tie.MeasureT-loop
-μ-loop file kind instance h at₀ n₀ total₀ agree₀ ordered₀ at n total agree ordered = length file - at
+μ-loop file kind instance h s₀ s = length file - s .end
 
 loop-holds : tie.Need-loop-holds Inv-loop μ-loop
 loop-holds c = pass-start _ _ _ _
 
-returns : tie.Need-returns Inv-loop μ-loop
-returns c = (pass-end (c .before .before .before .loop .inv) (gone _ _ _ _ (c .before .before .next-mine .ensures) (c .enum-told .given .1)), c .before .before .before .loop .inv .few)
+add-head-at : tie.Need-add-head-at Inv-loop μ-loop
+add-head-at c = let m = c .before .mine-here .ensures (c .if1 .taken) in omega arith
 
-add-n : tie.Need-add-n Inv-loop μ-loop
-add-n c = let m = met _ _ _ _ (c .before .before .before .next-mine .ensures) (c .before .head .given .1) in omega arith
+head-at-requires : tie.Need-head-at-requires Inv-loop μ-loop
+head-at-requires c κs = let m = c .before .mine-here .ensures (c .if1 .taken) in omega arith
 
-add-total : tie.Need-add-total Inv-loop μ-loop
-add-total c = let m = met _ _ _ _ (c .before .before .before .next-mine .ensures) (c .before .head .given .1) in omega arith
+sub-found-more : tie.Need-sub-found-more Inv-loop μ-loop
+sub-found-more c = let m = c .before .before .mine-here .ensures (c .before .if1 .taken) in omega arith
+
+add-found-more : tie.Need-add-found-more Inv-loop μ-loop
+add-found-more c = let m = c .before .before .mine-here .ensures (c .before .if1 .taken) in omega arith
+
+add-found-more-2 : tie.Need-add-found-more-2 Inv-loop μ-loop
+add-found-more-2 c = let m = c .before .before .mine-here .ensures (c .before .if1 .taken) in omega arith
+
+found-more-requires : tie.Need-found-more-requires Inv-loop μ-loop
+found-more-requires c κs = let m = c .before .before .mine-here .ensures (c .before .if1 .taken) in omega arith
 
 loop-less : tie.Need-loop-less Inv-loop μ-loop
-loop-less c = let m = met _ _ _ _ (c .before .before .before .before .before .before .next-mine .ensures) (c .before .before .before .before .head .given .1) in omega arith
+loop-less c = let m = c .before .before .before .mine-here .ensures (c .before .before .if1 .taken) in omega (arith, ap (λ (s : Scan). s .end) (c .found-more .ensures))
 
 loop-again : tie.Need-loop-again Inv-loop μ-loop
-loop-again c =
-    let at-alike = c .before .before in
-    let at-head = at-alike .before .before in
-    let at-next-mine = at-head .before .before in
-    let at-loop = at-next-mine .before in
-    pass-turn (at-loop .loop .inv) (met _ _ _ _ (at-next-mine .next-mine .ensures) (at-head .head .given .1)) (at-alike .alike .ensures) (c .also .ensures)
+loop-again c = pass-turn _ _ _ _ (c .before .before .before .before .loop .inv) (c .before .before .before .mine-here .ensures (c .before .before .if1 .taken)) (rw (c .before .head-at .ensures) at (c .found-more .ensures))
+
+returns : tie.Need-returns Inv-loop μ-loop
+returns c = let i = c .before .before .before .before .before .loop .inv in
+    (pass-end _ _ _ _ i (gone _ _ _ _ (c .before .before .next-mine .ensures) (c .enum-told .given .1)), pass-ending _ _ _ _ i)
+
+found-more-requires-2 : tie.Need-found-more-requires-2 Inv-loop μ-loop
+found-more-requires-2 c κs = let m = met _ _ _ _ (c .before .before .before .next-mine .ensures) (c .before .head .given .1) in omega arith
+
+loop-less-2 : tie.Need-loop-less-2 Inv-loop μ-loop
+loop-less-2 c = let m = met _ _ _ _ (c .before .before .before .before .next-mine .ensures) (c .before .before .head .given .1) in omega (arith, ap (λ (s : Scan). s .end) (c .found-more2 .ensures))
+
+loop-again-2 : tie.Need-loop-again-2 Inv-loop μ-loop
+loop-again-2 c = pass-turn _ _ _ _ (c .before .before .before .before .before .before .before .loop .inv) (met _ _ _ _ (c .before .before .before .before .next-mine .ensures) (c .before .before .head .given .1)) (c .found-more2 .ensures)
 
 pub scan-all-spec : {M : Type 1} → statement M
 scan-all-spec =
@@ -45,13 +65,18 @@ scan-all-spec =
     μ-loop
     loop-holds
     (λ c κs. search needs)
+    add-head-at
+    head-at-requires
+    sub-found-more
+    add-found-more
+    add-found-more-2
+    found-more-requires
+    loop-less
+    loop-again
+    (λ c κs. search needs)
     (λ c. search needs)
     returns
     (λ c. search needs)
-    add-n
-    add-total
-    (λ c κs. search needs)
-    (λ c. search needs)
-    (λ c κs. search needs)
-    loop-less
-    loop-again)
+    found-more-requires-2
+    loop-less-2
+    loop-again-2)

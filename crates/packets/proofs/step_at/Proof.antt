@@ -1,41 +1,30 @@
--- `packets::step_at` meets its contract: each return goes by the tests that led there.
-use Rattle.packets.specs.Walk.{barred, markedAt, stepAt}
-use borrow.Author.Tests.{le-leb, lt-leb, eq-eqb, ne-eqb}
+-- `packets::step_at` meets its contract: where the quick look finds a packet, it is the step.
+use mathlib.Core.Path.{sym, _∙_}
+use native.Mathlib.Omega.{arith}
 use borrow.Author.Needs.{needs}
 use Rattle.packets.proofs.step_at.Statement.{statement}
 use Rattle.packets.proofs.step_at.Tie as tie
 
-returns : tie.Need-returns
-unfolding stepAt markedAt
-returns c = simp (← c .before .before .past-ones .ensures, le-leb _ _ (c .before .if1 .taken)) (c .broken .ensures)
+add-head-at : tie.Need-add-head-at
+add-head-at c = let p = c .before .packet-here .ensures (omega arith) in omega arith
+
+head-at-requires : tie.Need-head-at-requires
+head-at-requires c κs = let p = c .before .packet-here .ensures (omega arith) in omega arith
+
+add-t7 : tie.Need-add-t7
+add-t7 c = let p = c .before .before .packet-here .ensures (omega arith) in omega arith
+
+sub-t8 : tie.Need-sub-t8
+sub-t8 c = let p = c .before .before .packet-here .ensures (omega arith) in omega arith
+
+add-t9 : tie.Need-add-t9
+add-t9 c = let p = c .before .before .packet-here .ensures (omega arith) in omega arith
+
+add-t10 : tie.Need-add-t10
+add-t10 c = let p = c .before .before .packet-here .ensures (omega arith) in omega arith
 
 returns-2 : tie.Need-returns-2
-unfolding stepAt markedAt
-returns-2 c = simp (← c .before .before .before .past-ones .ensures, lt-leb _ _ (c .before .before .if1 .left), le-leb _ _ (c .before .if2 .taken)) (c .broken2 .ensures)
-
-returns-3 : tie.Need-returns-3
-unfolding stepAt markedAt
-returns-3 c = simp (← c .before .before .before .before .past-ones .ensures, lt-leb _ _ (c .before .before .before .if1 .left), lt-leb _ _ (c .before .before .if2 .left), eq-eqb _ _ (c .if3 .taken))
-
-returns-4 : tie.Need-returns-4
-unfolding stepAt markedAt
-returns-4 c =
-    let at-barred = c .before .before in
-    let at-if3 = at-barred .before in
-    let at-if2 = at-if3 .before .before in
-    let at-if1 = at-if2 .before in
-    let at-past-ones = at-if1 .before in
-    simp (← at-past-ones .past-ones .ensures, lt-leb _ _ (at-if1 .if1 .left), lt-leb _ _ (at-if2 .if2 .left), ne-eqb _ _ (at-if3 .if3 .left), ← at-barred .barred .ensures, c .before .if4 .taken) (c .broken3 .ensures)
-
-returns-5 : tie.Need-returns-5
-unfolding stepAt markedAt
-returns-5 c =
-    let at-barred = c .before .before in
-    let at-if3 = at-barred .before in
-    let at-if2 = at-if3 .before .before in
-    let at-if1 = at-if2 .before in
-    let at-past-ones = at-if1 .before in
-    simp (← at-past-ones .past-ones .ensures, lt-leb _ _ (at-if1 .if1 .left), lt-leb _ _ (at-if2 .if2 .left), ne-eqb _ _ (at-if3 .if3 .left), ← at-barred .barred .ensures, c .before .if4 .left) (c .sized-at .ensures)
+returns-2 c = rw (c .head-at .ensures) (sym (c .before .before .packet-here .ensures (omega arith) .step))
 
 pub step-at-spec : {M : Type 1} → statement M
 step-at-spec =
@@ -43,13 +32,11 @@ step-at-spec =
     (tie.spec
     (λ c κs. search needs)
     (λ c κs. search needs)
-    returns
-    (λ c κs. search needs)
-    returns-2
     (λ c. search needs)
-    returns-3
-    (λ c κs. search needs)
-    (λ c κs. search needs)
-    returns-4
-    (λ c κs. search needs)
-    returns-5)
+    add-head-at
+    head-at-requires
+    add-t7
+    sub-t8
+    add-t9
+    add-t10
+    returns-2)
