@@ -3,6 +3,8 @@
 #include <stdlib.h>
 #include "auhowipi.h"
 
+enum { MOST = 1 << 26 };
+
 static void one_box(const uint8_t *file, size_t size, const char *name, uint16_t instance)
 {
     static uint8_t box[1 << 20];
@@ -12,23 +14,34 @@ static void one_box(const uint8_t *file, size_t size, const char *name, uint16_t
     printf("%s %u: %s (%u, place %llu)\n", name, instance, xt_meaning(number), number, (unsigned long long)place);
 }
 
+/* the file's bytes: their count, or MOST + 1 where there are more than MOST or they can't be read to the end */
+static size_t contents(const char *path, uint8_t *file)
+{
+    FILE *f = fopen(path, "rb");
+    if (!f) return MOST + 1;
+    size_t size = fread(file, 1, MOST, f);
+    int whole = size < MOST ? feof(f) && !ferror(f) : fgetc(f) == EOF && !ferror(f);
+    fclose(f);
+    return whole ? size : MOST + 1;
+}
+
 int main(int argc, char **argv)
 {
-    static uint8_t text[1 << 20];
+    static uint8_t file[MOST], text[1 << 20];
     uint64_t place;
-    FILE *f = argc == 2 ? fopen(argv[1], "rb") : NULL;
-    if (!f) {
+    if (argc != 2) {
         fprintf(stderr, "usage: list FILE\n");
         return 2;
     }
-    uint8_t *file = malloc(1 << 26);
-    size_t size = file ? fread(file, 1, 1 << 26, f) : 0;
+    size_t size = contents(argv[1], file);
+    if (size > MOST) {
+        fprintf(stderr, "list: %s can't be read whole (at most %d bytes)\n", argv[1], MOST);
+        return 2;
+    }
     if (xt_list_packets(file, size, text, sizeof text, &place) == XT_DONE) fwrite(text, 1, (size_t)place, stdout);
     one_box(file, size, "LPTS", 1);
     one_box(file, size, "TONE", 1);
     one_box(file, size, "FINE", 0);
     one_box(file, size, "FINE", 1);
-    fclose(f);
-    free(file);
     return 0;
 }

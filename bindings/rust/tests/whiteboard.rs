@@ -133,3 +133,28 @@ fn four_planes_there_and_back() {
         assert_eq!(values, level(plane));
     }
 }
+
+/// Three components with every part of a setting different from every other, so that no two can be exchanged unnoticed.
+/// The samples are those of tools/vectors/merge.py, which works in exact fractions.
+#[test]
+fn three_components() {
+    let table: Vec<u16> = (0..512u32).map(|i| (i * 5 % 2048) as u16).collect();
+    let matrix = [8192, 1024, -512, -300, 7000, 900, 100, -200, 9000];
+    let base = [200, 310, 140, 120, 100, 160];
+    let residual = [500, 530, 490, 520, 560, 470];
+    let setting = Setting { rb: 3, rh: 1, rr: 2, components: 3, base_transform: true, curve: Curve::Table(&table), matrix: Some(&matrix), residual_transform: false };
+    let mut out = [7u16; 7];
+    assert_eq!(merge(setting, 2, &base, Some(&residual), &mut out), Ok(6));
+    assert_eq!(out, [847, 1900, 971, 1353, 1293, 1528, 7]);
+    let turned = Setting { base_transform: false, residual_transform: true, ..setting };
+    assert_eq!(merge(turned, 2, &base, Some(&residual), &mut out), Ok(6));
+    assert_eq!(out, [1167, 1493, 539, 634, 442, 947, 7]);
+    let straight = Setting { rb: 2, rh: 3, rr: 4, curve: Curve::Straight, matrix: None, ..turned };
+    assert_eq!(merge(straight, 2, &base.map(|v| 4 * v), Some(&residual.map(|v| 4 * v)), &mut out), Ok(6));
+    assert_eq!(out, [455, 579, 241, 285, 149, 352, 7]);
+    let srgb = Setting { rb: 8, rh: 0, rr: 1, curve: Curve::Srgb, matrix: None, ..setting };
+    assert_eq!(merge(srgb, 2, &base, None, &mut out), Ok(6));
+    assert_eq!(out, [23357, 65535, 45002, 65535, 47385, 65535, 7]);
+    assert_eq!(refused(merge(setting, 2, &base, Some(&residual), &mut out[..5])), (9, 6));
+    assert_eq!(out, [0, 0, 0, 0, 0, 65535, 7]);
+}

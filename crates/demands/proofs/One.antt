@@ -1,7 +1,7 @@
 -- Demand 1 holds. Assumes nothing.
 use mathlib.Core.Path.{_≡_, refl, sym, ap, _∙_}
 use mathlib.Core.Logic.{⊎-elim}
-use mathlib.Core.Bool.{true}
+use mathlib.Core.Bool.{Bool, true, false, cond}
 use mathlib.Core.List.{List, [], _∷_, _++_}
 use mathlib.Core.Option.{none}
 use Prim.Native.Nat.{ℕ, _-_, _*_, _≤_, _<_}
@@ -16,7 +16,7 @@ use Rattle.laws.specs.First.{firstFail}
 use Rattle.laws.specs.declared.Found.{Found}
 use Rattle.laws.specs.declared.Found.the-variants.{At, Nothing}
 use Rattle.laws.proofs.Choices.{at-one, at-nothing}
-use Rattle.answers.specs.Verdict.{Verdict, need, unless}
+use Rattle.answers.specs.Verdict.{Verdict, need, unless, fitting}
 use Rattle.levels.specs.Level.{inside, firstOutside}
 use Rattle.levels.specs.declared.Part.{Part}
 use Rattle.levels.specs.declared.Part.the-variants.{Dc, Ac, Whole}
@@ -36,7 +36,8 @@ use Rattle.settings.specs.Tests.{inRanges, plain, srgbAllowed, samples, lengths
 use Rattle.merge.specs.Picture as merging
 use Rattle.merge.specs.Picture.{merge}
 use Rattle.merge.proofs.Order.{picture-long}
-use Rattle.demands.specs.One.{Rows, row, rows, stands, _then_, needed, First, FirstLacking, boxRows, packetRows, listRows, dcReadRows, acReadRows, dcWriteRows, acWriteRows, transformRows, mergeRows, DemandOne}
+use Rattle.reader_c.specs.Merge.{matrixCount, settingNumber, mergeCall}
+use Rattle.demands.specs.One.{Rows, row, rows, stands, _then_, failing, needed, First, FirstLacking, boxRows, packetRows, listRows, dcReadRows, acReadRows, dcWriteRows, acWriteRows, transformRows, mergeRows, mergeCallRows, DemandOne}
 use Rattle.demands.specs.Blocks.{oneDc, oneAc}
 use Rattle.demands.proofs.Rows.{Judged, need-judged, failing-judged, unless-judged, fitting-judged, first-index, index-first, NoZero, answered}
 use Rattle.demands.proofs.Blocks.{dc-stops, stops-dc, dc-left, left-dc, ac-stops, stops-ac, ac-left, left-ac}
@@ -201,16 +202,56 @@ transform-judged refinement blocks values quantisers room =
     outside-judged Whole refinement values _ λ o.
     fitting-judged room (blocks * 64) (picture refinement blocks values quantisers) (picture-length refinement blocks values quantisers)
 
-pub merge-judged : (s : Setting) (pixels : ℕ) (base residual : List ℤ) (table : List ℕ) (room : ℕ) → Judged (mergeRows s pixels base residual table room) room (merge s pixels base residual table room)
-unfolding merge mergeRows
-merge-judged s pixels base residual table room =
-    failing-judged (inRanges s pixels) 20 _ λ e.
-    failing-judged (plain s) 20 _ λ f.
-    failing-judged (srgbAllowed s) 20 _ λ g.
-    failing-judged (lengthsRight s pixels base residual table) 21 _ λ h.
-    unless-judged (First (length table) (entryRight (top (s .rb)) table)) 11 (firstFail (length table) (entryRight (top (s .rb)) table)) _
-    (first-index (length table) (entryRight (top (s .rb)) table)) (index-first (length table) (entryRight (top (s .rb)) table)) λ o.
-    fitting-judged room (samples s pixels) (merging.mergedPicture s pixels base residual table) (picture-long s pixels base residual table room)
+-- the merge behind its settings: 21, 11, 9
+module _ (s : Setting) (pixels : ℕ) (base residual : List ℤ) (table : List ℕ) (room : ℕ) where
+  abbrev lentRows : Rows
+  lentRows =
+      row 21 (failing (lengthsRight s pixels base residual table)) then row 11 (First (length table) (entryRight (top (s .rb)) table)) then row 9 (needed (samples s pixels) room)
+
+  abbrev pub lentMerge : Verdict ℕ
+  lentMerge =
+      need (lengthsRight s pixels base residual table) 21 0
+      (unless 11 (firstFail (length table) (entryRight (top (s .rb)) table)) (fitting room (merging.mergedPicture s pixels base residual table)))
+
+  lent-judged : Judged lentRows room lentMerge
+  lent-judged =
+      failing-judged (lengthsRight s pixels base residual table) 21 _ λ h.
+      unless-judged (First (length table) (entryRight (top (s .rb)) table)) 11 (firstFail (length table) (entryRight (top (s .rb)) table)) _
+      (first-index (length table) (entryRight (top (s .rb)) table)) (index-first (length table) (entryRight (top (s .rb)) table)) λ o.
+      fitting-judged room (samples s pixels) (merging.mergedPicture s pixels base residual table) (picture-long s pixels base residual table room)
+
+  pub lent-merge : inRanges s pixels ≡ true → plain s ≡ true → srgbAllowed s ≡ true → merge s pixels base residual table room ≡ lentMerge
+  unfolding merge
+  lent-merge a b c = rw (a, b, c)
+
+  pub merge-judged : Judged (mergeRows s pixels base residual table room) room (merge s pixels base residual table room)
+  unfolding merge mergeRows
+  merge-judged = failing-judged (inRanges s pixels) 20 _ λ e. failing-judged (plain s) 20 _ λ f. failing-judged (srgbAllowed s) 20 _ λ g. lent-judged
+
+  -- the call for C and Rust tests the same, and the matrix's length behind the settings
+  module _ (named : Bool) (matrix : List ℤ) where
+    abbrev pub measured : Bool
+    measured = eqb (length matrix) (matrixCount (s .matrix))
+
+    pub call-is : mergeCall named s pixels base residual table matrix room ≡ need named 20 0 (need (inRanges s pixels) 20 0 (need (plain s) 20 0 (need (srgbAllowed s) 20 0 (need measured 21 0 lentMerge))))
+    unfolding mergeCall settingNumber every merge
+    call-is = go named (inRanges s pixels) (plain s) (srgbAllowed s) measured
+      where
+        go : (a b c d e : Bool) → need (eqb (cond (every (a ∷ b ∷ c ∷ d ∷ [])) (cond e 0 21) 20) 0) (cond (every (a ∷ b ∷ c ∷ d ∷ [])) (cond e 0 21) 20) 0 (need b 20 0 (need c 20 0 (need d 20 0 lentMerge)))
+            ≡ need a 20 0 (need b 20 0 (need c 20 0 (need d 20 0 (need e 21 0 lentMerge))))
+        go false b c d e = refl
+        go true false c d e = refl
+        go true true false d e = refl
+        go true true true false e = refl
+        go true true true true false = refl
+        go true true true true true = refl
+
+    pub call-judged : Judged (mergeCallRows named s pixels base residual table matrix room) room (mergeCall named s pixels base residual table matrix room)
+    unfolding mergeCallRows
+    call-judged =
+        rw call-is
+        (failing-judged named 20 _ λ a. failing-judged (inRanges s pixels) 20 _ λ e. failing-judged (plain s) 20 _ λ f. failing-judged (srgbAllowed s) 20 _ λ g.
+        failing-judged measured 21 _ λ m. lent-judged)
 
 -- ---- no row has the number 0
 
@@ -264,6 +305,12 @@ unfolding mergeRows
 merge-zero s pixels base residual table room =
     row-zero 20 _ (omega arith) and row-zero 20 _ (omega arith) and row-zero 20 _ (omega arith) and row-zero 21 _ (omega arith) and row-zero 11 _ (omega arith) and row-zero 9 _ (omega arith)
 
+pub call-zero : (named : Bool) (s : Setting) (pixels : ℕ) (base residual : List ℤ) (table : List ℕ) (matrix : List ℤ) (room : ℕ) → NoZero (mergeCallRows named s pixels base residual table matrix room)
+unfolding mergeCallRows
+call-zero named s pixels base residual table matrix room =
+    row-zero 20 _ (omega arith) and row-zero 20 _ (omega arith) and row-zero 20 _ (omega arith) and row-zero 20 _ (omega arith) and row-zero 21 _ (omega arith) and row-zero 21 _ (omega arith)
+    and row-zero 11 _ (omega arith) and row-zero 9 _ (omega arith)
+
 pub demand-one : DemandOne
 demand-one = record {
   boxes = λ file kind instance before. answered 0 (box-zero file kind instance (length before)) before _ (box-judged file kind instance (length before));
@@ -274,4 +321,6 @@ demand-one = record {
   acWrite = λ plane blocks codes values before. answered 0 (ac-write-zero plane blocks codes values (length before)) before _ (ac-write-judged plane blocks codes values (length before));
   transforms = λ refinement blocks values quantisers before. answered (pos 0) (transform-zero refinement blocks values quantisers (length before)) before _ (transform-judged refinement blocks values quantisers (length before));
   merges = λ s pixels base residual table before. answered 0 (merge-zero s pixels base residual table (length before)) before _ (merge-judged s pixels base residual table (length before));
+  mergeCalls = λ named s pixels base residual table matrix before.
+      answered 0 (call-zero named s pixels base residual table matrix (length before)) before _ (call-judged s pixels base residual table (length before) named matrix);
 }

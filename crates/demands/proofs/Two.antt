@@ -1,6 +1,6 @@
 -- Demand 2 holds. Assumes nothing.
 use mathlib.Core.Path.{_≡_, refl, sym, ap, subst, _∙_}
-use mathlib.Core.Bool.{true}
+use mathlib.Core.Bool.{Bool, true}
 use mathlib.Core.List.{List, [], _∷_}
 use mathlib.Core.Option.{none}
 use Prim.Native.Nat.{ℕ, _-_, _*_, _≤_}
@@ -32,11 +32,12 @@ use Rattle.rounding.specs.Near.{top}
 use Rattle.pixel.specs.declared.Setting.{Setting}
 use Rattle.settings.specs.Tests.{inRanges, plain, srgbAllowed, lengthsRight, entryRight}
 use Rattle.merge.specs.Picture.{mergedPicture, merge}
+use Rattle.reader_c.specs.Merge.{matrixCount, mergeCall}
 use Rattle.demands.specs.One.{Rows}
-use Rattle.demands.specs.Two.{Exactly, Listed, DcRefined, AcRefined, DcCoded, AcCoded, Sampled, Merged, DemandTwo}
+use Rattle.demands.specs.Two.{Exactly, Listed, DcRefined, AcRefined, DcCoded, AcCoded, Sampled, Merged, MergeCalled, DemandTwo}
 use Rattle.demands.proofs.Rows.{Keeps, refuses, Judged, NoZero}
 use Rattle.demands.proofs.Walked.{box-judged}
-use Rattle.demands.proofs.One.{list-judged, list-zero, dc-read-judged, ac-read-judged, dc-write-judged, ac-write-judged, transform-judged, merge-judged, box-zero, dc-read-zero, ac-read-zero, dc-write-zero, ac-write-zero, transform-zero, merge-zero}
+use Rattle.demands.proofs.One.{list-judged, list-zero, dc-read-judged, ac-read-judged, dc-write-judged, ac-write-judged, transform-judged, merge-judged, call-judged, call-is, lentMerge, lent-merge, call-zero, box-zero, dc-read-zero, ac-read-zero, dc-write-zero, ac-write-zero, transform-zero, merge-zero}
 
 -- ---- from a verdict to what was written
 
@@ -202,6 +203,26 @@ module _ (s : Setting) (pixels : ℕ) (base residual : List ℤ) (table : List �
   merged-given ys h =
       rw (h .ranges, h .one, h .srgb, h .lengths, h .entries) (fits-given room (mergedPicture s pixels base residual table) ys (h .results) (h .fits))
 
+module _ (named : Bool) (s : Setting) (pixels : ℕ) (base residual : List ℤ) (table : List ℕ) (matrix : List ℤ) (room : ℕ) where
+  called : (ys : List ℕ) → mergeCall named s pixels base residual table matrix room ≡ given ys → MergeCalled named s pixels base residual table matrix room ys
+  called ys e =
+      let w = sym (call-is s pixels base residual table room named matrix) ∙ e in
+      let n = need-given named 20 0 _ ys w in
+      let a = need-given (inRanges s pixels) 20 0 _ ys (n .1) in
+      let b = need-given (plain s) 20 0 _ ys (a .1) in
+      let c = need-given (srgbAllowed s) 20 0 _ ys (b .1) in
+      let m = need-given (eqb (length matrix) (matrixCount (s .matrix))) 21 0 _ ys (c .1) in
+      record { known = n .0; weights = eqb-true (length matrix) (matrixCount (s .matrix)) (m .0); merged = merged s pixels base residual table room ys (behind ys (a .0) (b .0) (c .0) (m .1)) }
+    where
+      behind : (ys : List ℕ) → inRanges s pixels ≡ true → plain s ≡ true → srgbAllowed s ≡ true → lentMerge s pixels base residual table room ≡ given ys → merge s pixels base residual table room ≡ given ys
+      behind ys a b c e = lent-merge s pixels base residual table room a b c ∙ e
+
+  called-given : (ys : List ℕ) → MergeCalled named s pixels base residual table matrix room ys → mergeCall named s pixels base residual table matrix room ≡ given ys
+  called-given ys h =
+      let m = h .merged in
+      let e : lentMerge s pixels base residual table room ≡ given ys = sym (lent-merge s pixels base residual table room (m .ranges) (m .one) (m .srgb)) ∙ merged-given s pixels base residual table room ys m in
+      call-is s pixels base residual table room named matrix ∙ rw (h .known, m .ranges, m .one, m .srgb, eq-eqb (length matrix) (matrixCount (s .matrix)) (h .weights)) e
+
 module _ (file : List ℕ) (room : ℕ) where
   listed-text : (ys : List ℕ) → listPackets file room ≡ given ys → Listed file room ys
   unfolding listPackets
@@ -229,4 +250,6 @@ demand-two = record {
       exactly (pos 0) (transform-zero refinement blocks values quantisers (length before)) before _ (transform-judged refinement blocks values quantisers (length before)) (sampled refinement blocks values quantisers (length before)) (sampled-given refinement blocks values quantisers (length before));
   merges = λ s pixels base residual table before.
       exactly 0 (merge-zero s pixels base residual table (length before)) before _ (merge-judged s pixels base residual table (length before)) (merged s pixels base residual table (length before)) (merged-given s pixels base residual table (length before));
+  mergeCalls = λ named s pixels base residual table matrix before.
+      exactly 0 (call-zero named s pixels base residual table matrix (length before)) before _ (call-judged s pixels base residual table (length before) named matrix) (called named s pixels base residual table matrix (length before)) (called-given named s pixels base residual table matrix (length before));
 }

@@ -34,6 +34,7 @@ use Rattle.rounding.specs.Near.{top}
 use Rattle.pixel.specs.declared.Setting.{Setting}
 use Rattle.settings.specs.Tests.{inRanges, plain, srgbAllowed, samples, lengthsRight, entryRight}
 use Rattle.merge.specs.Picture.{merge}
+use Rattle.reader_c.specs.Merge.{matrixCount, mergeCall}
 use Rattle.demands.specs.Blocks.{StopsAt, LeftOver, oneDc, oneAc}
 
 -- ---- 01's table: which number with which place, and when
@@ -212,6 +213,18 @@ mergeRows s pixels base residual table room =
     then row 11 (First (length table) (entryRight (top (s .rb)) table))
     then row 9 (needed (samples s pixels) room)
 
+-- the merge for C and Rust, whose setting comes as numbers: an unknown one is 20; the matrix is lent too, "nine signed 16-bit numbers" or none
+unfoldable pub mergeCallRows : Bool → Setting → ℕ → List ℤ → List ℤ → List ℕ → List ℤ → ℕ → Rows
+mergeCallRows named s pixels base residual table matrix room =
+    row 20 (failing named)
+    then row 20 (failing (inRanges s pixels))
+    then row 20 (failing (plain s))
+    then row 20 (failing (srgbAllowed s))
+    then row 21 (failing (eqb (length matrix) (matrixCount (s .matrix))))
+    then row 21 (failing (lengthsRight s pixels base residual table))
+    then row 11 (First (length table) (entryRight (top (s .rb)) table))
+    then row 9 (needed (samples s pixels) room)
+
 -- ---- the demand: whatever is lent, a call that meets its promise has answered so
 
 pub record DemandOne : Type 0 where
@@ -239,3 +252,6 @@ pub record DemandOne : Type 0 where
   pub merges : (s : Setting) (pixels : ℕ) (base residual : List ℤ) (table : List ℕ) (before after : List ℕ) (answer : Answer)
       → Meets 0 (merge s pixels base residual table (length before)) before after answer
       → Answered 0 (mergeRows s pixels base residual table (length before)) before after answer
+  pub mergeCalls : (named : Bool) (s : Setting) (pixels : ℕ) (base residual : List ℤ) (table : List ℕ) (matrix : List ℤ) (before after : List ℕ) (answer : Answer)
+      → Meets 0 (mergeCall named s pixels base residual table matrix (length before)) before after answer
+      → Answered 0 (mergeCallRows named s pixels base residual table matrix (length before)) before after answer

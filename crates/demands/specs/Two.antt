@@ -37,6 +37,7 @@ use Rattle.pixel.specs.Pixels.{component}
 use Rattle.pixel.specs.Steps.{merged}
 use Rattle.settings.specs.Tests.{inRanges, plain, srgbAllowed, lengthsRight, entryRight}
 use Rattle.merge.specs.Picture.{pixelAt, mergedPicture, merge}
+use Rattle.reader_c.specs.Merge.{matrixCount, mergeCall}
 
 -- what was written is right; and where 01 has values, these were written
 pub record Exactly {A : Type 0} (Right : List A → Type 0) (after : List A) (answer : Answer) : Type 0 where
@@ -110,6 +111,12 @@ pub record Merged (s : Setting) (pixels : ℕ) (base residual : List ℤ) (table
   pub results : ys ≡ mergedPicture s pixels base residual table
   pub fits : length ys ≤ room
 
+-- the merge for C and Rust: the numbers of its setting name something, and the matrix is as long as the setting asks
+pub record MergeCalled (named : Bool) (s : Setting) (pixels : ℕ) (base residual : List ℤ) (table : List ℕ) (matrix : List ℤ) (room : ℕ) (ys : List ℕ) : Type 0 where
+  pub known : named ≡ true
+  pub weights : length matrix ≡ matrixCount (s .matrix)
+  pub merged : Merged s pixels base residual table room ys
+
 -- ---- the demand: whatever is lent, a call that meets its promise
 
 pub record DemandTwo : Type 0 where
@@ -134,6 +141,9 @@ pub record DemandTwo : Type 0 where
   pub merges : (s : Setting) (pixels : ℕ) (base residual : List ℤ) (table : List ℕ) (before after : List ℕ) (answer : Answer)
       → Meets 0 (merge s pixels base residual table (length before)) before after answer
       → Exactly (Merged s pixels base residual table (length before)) after answer
+  pub mergeCalls : (named : Bool) (s : Setting) (pixels : ℕ) (base residual : List ℤ) (table : List ℕ) (matrix : List ℤ) (before after : List ℕ) (answer : Answer)
+      → Meets 0 (mergeCall named s pixels base residual table matrix (length before)) before after answer
+      → Exactly (MergeCalled named s pixels base residual table matrix (length before)) after answer
 
 -- ---- the same value by value
 
