@@ -10,3 +10,4 @@ pub mod Held
 pub mod Three
 pub mod Cases
 pub mod Shams
+pub mod Written

@@ -20,6 +20,7 @@ use Rattle.planes.specs.Task.{Task, walk, ended, atZero, pass}
 use Rattle.planes.specs.AcRead.{taskAt, corrected, position, blockEnd, acBlock, cut, acBlocks}
 use Rattle.planes.specs.Levels.{towardZero}
 use Rattle.answers.specs.declared.Refusal.{Refusal}
+use Rattle.demands.specs.Written.{together}
 use Rattle.demands.specs.Two.{DcRefined, AcRefined, carrying, allBits, DcValuesAre, AcValuesAre}
 
 -- ---- the bits of a source
@@ -28,10 +29,10 @@ use Rattle.demands.specs.Two.{DcRefined, AcRefined, carrying, allBits, D
 abbrev bitsLeft : Source → List Bool
 bitsLeft s = s .pending ++ allBits (carrying false (s .coming))
 
-got-both : {A : Type 0} {a b : A} {s t : Source} → got a s ≡ got b t → (a ≡ b) × (s ≡ t)
+pub got-both : {A : Type 0} {a b : A} {s t : Source} → got a s ≡ got b t → (a ≡ b) × (s ≡ t)
 got-both e = (cc, cc)
 
-stopped-got : {A : Type 0} {b : A} {x : Stop} {t : Source} → stopped x ≡ got b t → ⊥
+pub stopped-got : {A : Type 0} {b : A} {x : Stop} {t : Source} → stopped x ≡ got b t → ⊥
 stopped-got e = let z : _≡_ {A = ℕ} 0 1 = cc in omega arith
 
 -- a byte that was opened: its first bit, and the others
@@ -61,16 +62,16 @@ next-bit s b t e = bit-from (s .pending) (s .coming) (s .seen) b t e
 
 -- ---- a plane that was read
 
-broken-read : {r : Refusal} {ys : List ℤ} {t : Source} → broken r ≡ read ys t → ⊥
+pub broken-read : {r : Refusal} {ys : List ℤ} {t : Source} → broken r ≡ read ys t → ⊥
 broken-read e = let z : _≡_ {A = ℕ} 0 1 = cc in omega arith
 
 -- values in front of those that follow
-record Fronted (values ys : List ℤ) (p : Plane) (t : Source) : Type 0 where
-  rest : List ℤ
-  after : p ≡ read rest t
-  whole : ys ≡ values ++ rest
+pub record Fronted (values ys : List ℤ) (p : Plane) (t : Source) : Type 0 where
+  pub rest : List ℤ
+  pub after : p ≡ read rest t
+  pub whole : ys ≡ values ++ rest
 
-fronted : (values ys : List ℤ) (p : Plane) (t : Source) → onto values p ≡ read ys t → Fronted values ys p t
+pub fronted : (values ys : List ℤ) (p : Plane) (t : Source) → onto values p ≡ read ys t → Fronted values ys p t
 unfolding onto
 fronted values ys (read more s) t e =
     let q : values ++ more ≡ ys = cc in
@@ -122,13 +123,13 @@ half-corrected (negsuc n) true = let e : suc (2 * n + 1 + 1) / 2 ≡ suc n = ome
 half-corrected (negsuc n) false = let e : suc (2 * n + 1 + 0) / 2 ≡ suc n = omega arith in rw e
 
 -- a reader behind another: what the first gave
-record Came {A B : Type 0} (f : A → Reader B) (o : Out A) (r : B) (u : Source) : Type 0 where
-  value : A
-  source : Source
-  first : o ≡ got value source
-  then : f value source ≡ got r u
+pub record Came {A B : Type 0} (f : A → Reader B) (o : Out A) (r : B) (u : Source) : Type 0 where
+  pub value : A
+  pub source : Source
+  pub first : o ≡ got value source
+  pub then : f value source ≡ got r u
 
-came : {A B : Type 0} (f : A → Reader B) (o : Out A) (r : B) (u : Source) → andThen f o ≡ got r u → Came f o r u
+pub came : {A B : Type 0} (f : A → Reader B) (o : Out A) (r : B) (u : Source) → andThen f o ≡ got r u → Came f o r u
 came f (got a s) r u e = record { value = a; source = s; first = refl; then = e }
 came f (stopped x) r u e = absurd (stopped-got e)
 
@@ -140,17 +141,12 @@ half-position t (negsuc n) s x u e = let w = came _ (takeBit s) x u e in let h =
 
 -- ---- blocks
 
--- the values of blocks, one behind the other
-together : List (List ℤ) → List ℤ
-together [] = []
-together (b ∷ bs) = b ++ together bs
-
 empty : (values : List ℤ) → length values ≡ 0 → [] ≡ values
 empty [] e = refl
 empty (v ∷ values) e = absurd (omega arith)
 
 cut-together : (n : ℕ) (values : List ℤ) → length values ≡ 63 * n → together (cut n values) ≡ values
-unfolding cut together
+unfolding cut
 cut-together zero values e = empty values (omega arith)
 cut-together (suc n) values e =
     let d : length (drop 63 values) ≡ 63 * n = let l = length-drop 63 values in omega arith in
@@ -163,7 +159,7 @@ module _ (codes : Table) where
   end-empty (some (ended n)) s r u e = let h = got-both e .0 in rw (← h)
   end-empty (some (walk n sign)) s r u e = absurd (stopped-got e)
 
-  half-block : (left : ℕ) (values : List ℤ) (o : Option Task) (s : Source) (r : List ℤ × Option Task) (u : Source) → acBlock codes left o values s ≡ got r u → map (towardZero 1) (r .0) ≡ values
+  pub half-block : (left : ℕ) (values : List ℤ) (o : Option Task) (s : Source) (r : List ℤ × Option Task) (u : Source) → acBlock codes left o values s ≡ got r u → map (towardZero 1) (r .0) ≡ values
   unfolding acBlock
   half-block left [] o s r u e = rw (end-empty o s r u e)
   half-block left (c ∷ values) o s r u e =
@@ -176,7 +172,7 @@ module _ (codes : Table) where
       rw (← h, one, more)
 
   half-blocks : (bs : List (List ℤ)) (k : ℕ) (o : Option Task) (s : Source) (ys : List ℤ) (t : Source) → acBlocks codes k o bs s ≡ read ys t → map (towardZero 1) ys ≡ together bs
-  unfolding acBlocks together
+  unfolding acBlocks
   half-blocks [] k o s ys t e = let q : [] ≡ ys = cc in rw (← q)
   half-blocks (b ∷ bs) k o s ys t e = go (half-blocks bs (suc k)) (acBlock codes (suc (length bs)) o b s) refl e
     where

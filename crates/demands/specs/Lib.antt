@@ -4,3 +4,4 @@ pub mod Two
 pub mod Three
 pub mod Cases
 pub mod Shams
+pub mod Written
