@@ -1,3 +1,4 @@
 pub mod Runs
 pub mod Walking
 pub mod Quick
+pub mod Cases
