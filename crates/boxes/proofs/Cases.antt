@@ -1,7 +1,7 @@
 -- 01, cases a and b, a box of length 0, and each pair of refusals that stand next to one another as one input with both faults: worked out by hand, computed.
 use Prim.Native.Nat.{ℕ}
 use mathlib.Core.Path.{_≡_, refl}
-use mathlib.Core.List.{List, [], _∷_, _++_}
+use mathlib.Core.List.{List, [], _∷_}
 use mathlib.Core.Bool.{true, false}
 use Rattle.answers.specs.Verdict.{Verdict, given, refused, refusal}
 use Rattle.packets.specs.declared.Head.{Head}

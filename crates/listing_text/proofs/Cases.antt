@@ -3,7 +3,6 @@ use Prim.Native.Nat.{ℕ}
 use mathlib.Core.Path.{_≡_, refl}
 use mathlib.Core.List.{List, [], _∷_, _++_}
 use lib.ListN.{length}
-use borrow.Author.Tests.{lt-ltb, le-ltb}
 use native.Mathlib.Omega.{arith}
 use Rattle.answers.specs.Verdict.{given, refused, refusal}
 use Rattle.packets.specs.Walk.{be16, be32, headAt, ones, barred, tagged, packetAt, wholeAt, sizedAt, markedAt, stepAt, stepsIn, stepsFrom, begins, walk, ending}
@@ -95,11 +94,11 @@ largest-line = rw (others .0, largest, others .1)
 -- "a file of at most 64 KiB": 65,536 bytes is still taken, one more gives "answer 20 0" whatever they are
 pub taken : (file : List ℕ) → length file ≡ 65536 → listing file ≡ header ++ textAfter (ending (walk file)) (lines (packets file))
 unfolding listing
-taken file e = rw (le-ltb 65536 (length file) (omega arith))
+taken file e = rw e
 
 pub too-long : (file : List ℕ) → length file ≡ 65537 → listing file ≡ first ++ (97 ∷ 110 ∷ 115 ∷ 119 ∷ 101 ∷ 114 ∷ 32 ∷ 50 ∷ 48 ∷ 32 ∷ 48 ∷ 10 ∷ [])
 unfolding header answer listing decIn dec
-too-long file e = rw (lt-ltb 65536 (length file) (omega arith))
+too-long file e = rw e
 
 -- the 38 bytes of an empty file's listing, in just enough room and in one byte less; a text as far as there is room
 pub rooms : (listPackets [] 38 ≡ given (listing [])) × (listPackets [] 37 ≡ refused (refusal 9 38))

@@ -1,7 +1,7 @@
 -- 6 and 7, worked out by hand and computed: 0, the largest number, the smallest of two, and both sides of 1..n.
 use Prim.Native.Nat.{ℕ}
 use mathlib.Core.Path.{_≡_, refl}
-use mathlib.Core.List.{List, [], _∷_}
+use mathlib.Core.List.{[], _∷_}
 use mathlib.Core.Bool.{true, false}
 use Rattle.laws.specs.declared.Found.the-variants.{At, Nothing}
 use Rattle.packets.specs.Packets.{Packet}

@@ -1,7 +1,7 @@
 -- 01's rules of the walk, worked out by hand on both sides of each edge, and computed. Each file begins FF D8, so that no place is 0 by chance.
 use Prim.Native.Nat.{ℕ}
 use mathlib.Core.Path.{_≡_, refl}
-use mathlib.Core.List.{List, [], _∷_, _++_}
+use mathlib.Core.List.{List, [], _∷_}
 use mathlib.Core.Bool.{true, false}
 use Rattle.answers.specs.Verdict.{refusal}
 use Rattle.answers.specs.declared.Outcome.the-variants.{Given, Refused}
@@ -10,6 +10,7 @@ use Rattle.packets.specs.declared.Step.{Step}
 use Rattle.packets.specs.declared.Step.the-variants.{End, Skip, Meet, Broken}
 use Rattle.packets.specs.Walk.{be16, be32, headAt, ones, barred, tagged, packetAt, wholeAt, sizedAt, markedAt, stepAt, stepsIn, stepsFrom, begins, walk, ending}
 use Rattle.packets.specs.Packets.{packetsIn, packets, isMine, mine}
+use Rattle.packets.specs.Layout.{packed, other, two, four, segment, inner, bytesOf, allBytes, laidOut}
 
 -- a file of these bytes behind FF D8, and what stands at its first segment
 abbrev begun : List ℕ → List ℕ
@@ -25,8 +26,8 @@ no number place = Broken (refusal number place)
 abbrev contents : ℕ → List ℕ → List ℕ
 contents lbox r = 0x4A ∷ 0x50 ∷ 0x01 ∷ 0x02 ∷ 0x03 ∷ 0x04 ∷ 0x05 ∷ 0x06 ∷ 0 ∷ 0 ∷ 0 ∷ lbox ∷ 0x4C ∷ 0x50 ∷ 0x54 ∷ 0x53 ∷ r
 
-abbrev packed : ℕ → ℕ → List ℕ → List ℕ
-packed len lbox r = 0xFF ∷ 0xEB ∷ 0 ∷ len ∷ contents lbox r
+abbrev tagged-as : ℕ → ℕ → List ℕ → List ℕ
+tagged-as len lbox r = 0xFF ∷ 0xEB ∷ 0 ∷ len ∷ contents lbox r
 
 abbrev head : ℕ → Head
 head lbox = record { instance = 0x0102; number = 0x03040506; stated = lbox; heading = 8; kind = 0x4C505453 }
@@ -80,15 +81,15 @@ pub met : (first (0xFF ∷ 0xEB ∷ 0 ∷ 2 ∷ 0x4A ∷ 0x50 ∷ []) ≡ Skip 6
     × (first (0xFF ∷ 0xEC ∷ 0 ∷ 4 ∷ 0x4A ∷ 0x50 ∷ []) ≡ Skip 8)
     × (first (0xFF ∷ 0xEC ∷ 0 ∷ 18 ∷ contents 8 []) ≡ Skip 22)
     × (first (0xFF ∷ 0xEB ∷ 0 ∷ 5 ∷ 0x4A ∷ 0x50 ∷ []) ≡ no 2 2)
-    × (first (packed 17 8 []) ≡ no 3 2)
-    × (first (packed 18 8 []) ≡ Meet (head 8) 22 0 22)
-    × (first (packed 18 7 []) ≡ no 3 2)
-    × (first (packed 18 0 []) ≡ no 3 2)
-    × (first (packed 19 8 []) ≡ no 2 2)
-    × (first (packed 19 7 []) ≡ no 2 2)
-    × (first (packed 21 11 (0xAA ∷ 0xBB ∷ 0xCC ∷ [])) ≡ Meet (head 11) 22 3 25)
-    × (first (0xFF ∷ 0xFF ∷ packed 20 9 (0xAA ∷ 0xBB ∷ [])) ≡ Meet (head 9) 24 2 26)
-    × (first (0xFF ∷ 0xFF ∷ packed 18 7 []) ≡ no 3 2)
+    × (first (tagged-as 17 8 []) ≡ no 3 2)
+    × (first (tagged-as 18 8 []) ≡ Meet (head 8) 22 0 22)
+    × (first (tagged-as 18 7 []) ≡ no 3 2)
+    × (first (tagged-as 18 0 []) ≡ no 3 2)
+    × (first (tagged-as 19 8 []) ≡ no 2 2)
+    × (first (tagged-as 19 7 []) ≡ no 2 2)
+    × (first (tagged-as 21 11 (0xAA ∷ 0xBB ∷ 0xCC ∷ [])) ≡ Meet (head 11) 22 3 25)
+    × (first (0xFF ∷ 0xFF ∷ tagged-as 20 9 (0xAA ∷ 0xBB ∷ [])) ≡ Meet (head 9) 24 2 26)
+    × (first (0xFF ∷ 0xFF ∷ tagged-as 18 7 []) ≡ no 3 2)
 unfolding be16 be32 headAt ones barred tagged packetAt wholeAt sizedAt markedAt stepAt
 met = (refl, refl, refl, refl, refl, refl, refl, refl, refl, refl, refl, refl, refl, refl, refl, refl, refl)
 
@@ -106,11 +107,11 @@ pub ended : (ending (walk []) ≡ Refused (refusal 1 0))
     × (ending (walk (0xFE ∷ 0xD8 ∷ 0xFF ∷ 0xDA ∷ [])) ≡ Refused (refusal 1 0))
     × (ending (walk (begun [])) ≡ Refused (refusal 2 2))
     × (ending (walk (begun (0xFF ∷ 0xDA ∷ []))) ≡ Given 0)
-    × (ending (walk (begun (0xFF ∷ 0xDA ∷ 0x00 ∷ packed 18 7 []))) ≡ Given 0)
+    × (ending (walk (begun (0xFF ∷ 0xDA ∷ 0x00 ∷ tagged-as 18 7 []))) ≡ Given 0)
     × (ending (walk (begun (0xFF ∷ 0xE0 ∷ 0 ∷ 2 ∷ []))) ≡ Refused (refusal 2 6))
-    × (ending (walk (begun (0xFF ∷ 0xE0 ∷ 0 ∷ 2 ∷ packed 18 7 (0xFF ∷ 0xDA ∷ [])))) ≡ Refused (refusal 3 6))
-    × (ending (walk (begun (packed 18 7 (0xFF ∷ 0x00 ∷ [])))) ≡ Refused (refusal 3 2))
-    × (ending (walk (begun (packed 18 8 (0xFF ∷ 0x00 ∷ packed 18 7 [])))) ≡ Refused (refusal 2 22))
+    × (ending (walk (begun (0xFF ∷ 0xE0 ∷ 0 ∷ 2 ∷ tagged-as 18 7 (0xFF ∷ 0xDA ∷ [])))) ≡ Refused (refusal 3 6))
+    × (ending (walk (begun (tagged-as 18 7 (0xFF ∷ 0x00 ∷ [])))) ≡ Refused (refusal 3 2))
+    × (ending (walk (begun (tagged-as 18 8 (0xFF ∷ 0x00 ∷ tagged-as 18 7 [])))) ≡ Refused (refusal 2 22))
 unfolding be16 be32 headAt ones barred tagged packetAt wholeAt sizedAt markedAt stepAt stepsIn stepsFrom begins walk ending
 ended = (refl, refl, refl, refl, refl, refl, refl, refl, refl, refl, refl)
 
@@ -118,7 +119,7 @@ ended = (refl, refl, refl, refl, refl, refl, refl, refl, refl, refl, refl)
 abbrev several : List ℕ
 several = begun
     (0xFF ∷ 0xE0 ∷ 0 ∷ 3 ∷ 0x77
-    ∷ packed 20 10 (0xAA ∷ 0xBB ∷ 0xFF ∷ packed 19 9 (0xCC ∷ 0xFF ∷ 0xDA ∷ packed 18 8 (0xFF ∷ 0xDA ∷ []))))
+    ∷ tagged-as 20 10 (0xAA ∷ 0xBB ∷ 0xFF ∷ tagged-as 19 9 (0xCC ∷ 0xFF ∷ 0xDA ∷ tagged-as 18 8 (0xFF ∷ 0xDA ∷ []))))
 
 pub steps : walk several ≡ Skip 7 ∷ Meet (head 10) 27 2 29 ∷ Meet (head 9) 50 1 51 ∷ End ∷ []
 unfolding be16 be32 headAt ones barred tagged packetAt wholeAt sizedAt markedAt stepAt stepsIn stepsFrom begins walk
@@ -127,6 +128,13 @@ steps = refl
 pub those : packets several ≡ record { head = head 10; payload = 0xAA ∷ 0xBB ∷ [] } ∷ record { head = head 9; payload = 0xCC ∷ [] } ∷ []
 unfolding be16 be32 headAt ones barred tagged packetAt wholeAt sizedAt markedAt stepAt stepsIn stepsFrom begins walk packetsIn packets
 those = refl
+
+-- the bytes of a written file: a segment with fill, case a's packet, fill in front of DA, and a byte behind it
+pub written : laidOut (other 1 0xE0 (7 ∷ []) ∷ packed 0 (record { head = record { instance = 1; number = 1; stated = 11; heading = 8; kind = 0x4C505453 }; payload = 0xAA ∷ 0xBB ∷ 0xCC ∷ [] }) ∷ []) 2 (9 ∷ [])
+    ≡ 0xFF ∷ 0xD8 ∷ 0xFF ∷ 0xFF ∷ 0xE0 ∷ 0 ∷ 3 ∷ 7 ∷ 0xFF ∷ 0xEB ∷ 0x00 ∷ 0x15 ∷ 0x4A ∷ 0x50 ∷ 0x00 ∷ 0x01 ∷ 0x00 ∷ 0x00 ∷ 0x00 ∷ 0x01 ∷ 0x00 ∷ 0x00 ∷ 0x00 ∷ 0x0B
+    ∷ 0x4C ∷ 0x50 ∷ 0x54 ∷ 0x53 ∷ 0xAA ∷ 0xBB ∷ 0xCC ∷ 0xFF ∷ 0xFF ∷ 0xFF ∷ 0xDA ∷ 9 ∷ []
+unfolding two four segment inner bytesOf allBytes laidOut
+written = refl
 
 abbrev of : ℕ → ℕ → Head
 of kind instance = record { instance = instance; number = 1; stated = 8; heading = 8; kind = kind }

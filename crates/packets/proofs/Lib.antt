@@ -2,3 +2,4 @@ pub mod Runs
 pub mod Walking
 pub mod Quick
 pub mod Cases
+pub mod Written
