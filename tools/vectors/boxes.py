@@ -1,6 +1,6 @@
 #!/usr/bin/env python3
 """boxes.py STDIN STDOUT: makes the vectors of boxes that crates/box_vectors runs and what it must print: files in order, shuffled, with several
-instances, strangers, fill, damage and cuts, by the second reading of document 01 in tools/box_check.py, and the bundled picture of the reference software.
+instances, strangers, fill, broken heads, damage and cuts, by the second reading of document 01 in tools/box_check.py, and the bundled picture of the reference software.
 A record is type, instance, room, the file, and the number, place and bytes expected."""
 import os, random, struct, sys
 from fields import lent, numbers, write
@@ -29,6 +29,22 @@ def packet(number, payload, lbox, instance=1, kind=b'LPTS', fill=1):
     return b'\xff' * fill + b'\xeb' + struct.pack('>H', 18 + len(payload)) + b'JP' + struct.pack('>HII', instance, number, lbox) + kind + payload
 
 
+def broken_heads():
+    """3 of both kinds, of the asked packet and of a stranger, alone, behind fill and behind other segments; what is skipped; and 2 before 3 at one segment."""
+    good = packet(1, b'ab', 10)
+    heads = [packet(1, b'', lbox, instance, kind, fill) for lbox in (0, 7, 8) for instance, kind in ((1, b'LPTS'), (2, b'LPTS'), (1, b'FINE')) for fill in (1, 3)]
+    heads += [b'\xff\xeb' + struct.pack('>H', n) + (b'JP' + bytes(14))[:n - 2] for n in range(2, 18)]
+    heads += [b'\xff\xeb\0\4' + tag for tag in (b'JQ', b'KP')] + [b'\xff\xec\0\4JP', b'\xff\xec' + packet(1, b'', 7)[2:]]
+    for head in heads:
+        for front in (b'', b'\xff\xe0\0\3x', good):
+            record('packet heads broken', b'\xff\xd8' + front + head + b'\xff\xda', b'LPTS', 1, 9)
+    for front in (b'', good):
+        for segment in (packet(1, b'', 7)[:3] + b'\x13' + packet(1, b'', 7)[4:], b'\xff\xeb\0\5JP', b'\xff\xff\xeb\0\x11JP'):
+            record('2 before 3', b'\xff\xd8' + front + segment, b'LPTS', 1, 9)
+        record('2 before 3', b'\xff\xd8' + front + b'\xff\0' + packet(1, b'', 7), b'LPTS', 1, 9)
+        record('2 before 3', b'\xff\xd8' + front + packet(1, b'', 7) + b'\xff\0', b'LPTS', 1, 9)
+
+
 def main():
     rnd = random.Random(184773)
     for n in (1, 2, 5, 40, 300):
@@ -49,6 +65,7 @@ def main():
         record('files cut at every byte', whole[:cut], b'LPTS', 1, 9)
     for marker in range(256):
         record('every marker', b'\xff\xd8\xff' + bytes([marker]) + b'\0\2' + packet(1, b'', 8) + b'\xff\xda', b'LPTS', 1, 9)
+    broken_heads()
     for _ in range(700):
         record('files made at random', rules['made'](rnd), b'LPTS', rnd.choice([1, 1, 2]), rnd.choice([0, 3, 30]))
     picture = open(os.path.join(ROOT, 'pictures', 'finish.jpg'), 'rb').read()

@@ -1,13 +1,13 @@
--- Laws of reading digits, by what stands at an index; and the type LPTS in letters and in digits, computed. Assumes nothing.
+-- Laws of reading digits, by what stands at an index. Assumes nothing.
 use Prim.Native.Nat.{ℕ, _+_, _*_, _≤_, _<_}
-use mathlib.Core.Path.{_≡_, refl}
-use mathlib.Core.List.{List, [], _∷_}
+use mathlib.Core.Path.{_≡_}
+use mathlib.Core.List.{List, []}
 use native.Mathlib.Numerals.{add-one}
 use lib.ListN.{length, getD, drop}
 use lib.Seq.{drop-cons}
 use borrow.Author.Tests.{lt-ltb, le-ltb}
 use Rattle.laws.specs.declared.Found.the-variants.{At, Nothing}
-use Rattle.asking.specs.Words.{digit, readFrom, typeOf, instanceOf}
+use Rattle.asking.specs.Words.{digit, readFrom}
 
 module _ (base value : ℕ) (word : List ℕ) (i : ℕ) (l : i < length word) where
   pub read-large : 268435455 < value → readFrom base value (drop i word) ≡ Nothing
@@ -25,10 +25,3 @@ module _ (base value : ℕ) (word : List ℕ) (i : ℕ) (l : i < length word) wh
 pub read-end : (base value : ℕ) (rest : List ℕ) → rest ≡ [] → readFrom base value rest ≡ At value
 unfolding readFrom
 read-end base value rest e = rw e
-
--- "LPTS", "4c505453" and "4C505453" ask for one type; instance 1; no type of three letters, no instance above 16 bits
-pub words : (typeOf (76 ∷ 80 ∷ 84 ∷ 83 ∷ []) ∷ typeOf (52 ∷ 99 ∷ 53 ∷ 48 ∷ 53 ∷ 52 ∷ 53 ∷ 51 ∷ []) ∷ typeOf (52 ∷ 67 ∷ 53 ∷ 48 ∷ 53 ∷ 52 ∷ 53 ∷ 51 ∷ [])
-    ∷ instanceOf (49 ∷ []) ∷ typeOf (76 ∷ 80 ∷ 84 ∷ []) ∷ instanceOf (54 ∷ 53 ∷ 53 ∷ 51 ∷ 54 ∷ []) ∷ [])
-    ≡ (At 0x4C505453 ∷ At 0x4C505453 ∷ At 0x4C505453 ∷ At 1 ∷ Nothing ∷ Nothing ∷ [])
-unfolding digit readFrom typeOf instanceOf
-words = refl

@@ -1,3 +1,4 @@
 pub mod Counts
 pub mod Smallest
 pub mod Chosen
+pub mod Cases

@@ -1,16 +1,16 @@
 -- The quick look: where the bytes of a whole packet with no fill stand, the step is that packet. Assumes nothing.
-use Prim.Native.Nat.{ℕ, _+_, _-_, _≤_, _<_}
-use mathlib.Core.Path.{_≡_, refl, ap, sym, subst, _∙_}
+use Prim.Native.Nat.{ℕ, _+_, _-_, _≤_}
+use mathlib.Core.Path.{_≡_, ap, sym, _∙_}
 use mathlib.Core.List.{List}
 use mathlib.Core.Bool.{true}
 use native.Mathlib.Omega.{arith}
-use lib.ListN.{length, getD, drop}
-use borrow.Author.Tests.{eq-eqb, ne-eqb, lt-leb, le-ltb}
+use lib.ListN.{length, drop}
+use borrow.Author.Tests.{le-ltb}
 use Rattle.packets.specs.declared.Step.the-variants.{Meet}
-use Rattle.packets.specs.Walk.{be16, be32, headAt, ones, barred, tagged, packetAt, wholeAt, sizedAt, markedAt, stepAt}
-use Rattle.packets.specs.Packets.{isMine, Met, Tagged, Packed, MineHere}
+use Rattle.packets.specs.Walk.{be16, be32, headAt, ones, barred, tagged, packetAt, wholeAt}
+use Rattle.packets.specs.Packets.{isMine, Tagged, Packed, MineHere}
 use Rattle.packets.proofs.Runs.{ones-on, ones-off}
-use Rattle.packets.proofs.Walking.{mine-met, ending-meet}
+use Rattle.packets.proofs.Walking.{segment-at, mine-met, ending-meet}
 
 module _ (file : List ℕ) (at len : ℕ) (t : Tagged file at) (least : 18 ≤ len) (inside : at + 2 + len ≤ length file)
     (size : be16 file (at + 2) ≡ len) (stated : 8 ≤ be32 file (at + 12)) where
@@ -34,19 +34,10 @@ module _ (file : List ℕ) (at len : ℕ) (t : Tagged file at) (least : 18 ≤ l
       rw (le-ltb len 18 least, e, f, g, le-ltb (be32 file (at + 12)) 8 stated)
 
   pub here : Packed file at len
-  unfolding stepAt markedAt sizedAt wholeAt barred
+  unfolding wholeAt barred
   here = record {
-    step = rw (
-      run,
-      lt-leb (at + 1) at (omega arith),
-      lt-leb (length file) (at + 1) (omega arith),
-      t .marker,
-      le-ltb (length file) (at + 1 + 3) (omega arith),
-      size-there,
-      le-ltb len 2 (omega arith),
-      le-ltb (length file) (at + 1 + 1 + len) (omega arith),
-      is-tagged,
-    ) is-packet;
+    step = segment-at file at (at + 1) len run (omega arith) (λ e. let f = sym (t .marker) ∙ e in omega arith) (rw (t .marker)) size-there (omega arith) (omega arith)
+        ∙ rw (t .marker, is-tagged) is-packet;
     least = least;
     inside = inside;
   }

@@ -8,7 +8,7 @@ use native.Mathlib.Omega.{arith}
 use lib.ListN.{length, getD, take, drop, length-drop}
 use lib.Seq.{length-take-le}
 use lib.Dec.{eqb, ltb, leb}
-use borrow.Author.Tests.{le-leb, ltb-false, leb-false}
+use borrow.Author.Tests.{ne-eqb, le-leb, lt-leb, le-ltb, ltb-false, leb-false}
 use Rattle.laws.proofs.Choices.{either, by-test}
 use Rattle.answers.specs.Verdict.{refusal}
 use Rattle.answers.specs.declared.Refusal.{Refusal}
@@ -60,6 +60,23 @@ forward file at =
     by-test (Forward file at) (eqb (getD file m 0) 218) (λ v. tt) λ v.
     by-test (Forward file at) (barred (getD file m 0)) (λ w. tt) λ w.
     forward-sized file at m (leb-false _ _ t)
+
+-- where the marker and the length of a whole segment stand, the step is what the segment holds
+pub segment-at : (file : List ℕ) (at m len : ℕ) → at + ones (drop at file) ≡ m → at < m → (getD file m 0 ≡ 218 → ⊥) → barred (getD file m 0) ≡ false
+    → be16 file (m + 1) ≡ len → 2 ≤ len → m + 1 + len ≤ length file → stepAt file at ≡ wholeAt file at m len
+unfolding stepAt markedAt sizedAt
+segment-at file at m len run past sos free size least inside =
+    rw (
+      run,
+      lt-leb m at past,
+      lt-leb (length file) m (omega arith),
+      ne-eqb (getD file m 0) 218 sos,
+      free,
+      le-ltb (length file) (m + 3) (omega arith),
+      size,
+      le-ltb len 2 least,
+      le-ltb (length file) (m + 1 + len) inside,
+    )
 
 -- past the end there is no segment
 step-past : (file : List ℕ) (at : ℕ) → length file ≤ at → stepAt file at ≡ Broken (refusal 2 at)

@@ -2,11 +2,8 @@
 use Rattle.listing_text.proofs.Writes.{dec-shorter}
 use borrow.Author.Needs.{needs}
 use native.Mathlib.Omega.{arith}
-use mathlib.Core.Path.{_≡_, refl, sym, ap, subst, _∙_}
-use lib.ListN.{length, take, length-append, length-set}
-use Rattle.listing_text.proofs.Writes.{wrote-then, wrote-none, wrote-byte, wrote-past, wrote-length, write-fits, dec-small, dec-more, dec-length, hex-more, hex-none, hex-length}
-use Rattle.listing_text.specs.Text.{dec, hex, glyph, header, line, lines, answer, listing, Wrote}
-use Prim.Native.Nat.{_+_, _-_, _≤_}
+use Rattle.listing_text.proofs.Writes.{wrote-then, wrote-length, dec-small, dec-more}
+use Prim.Native.Nat.{_+_, _-_}
 use Prim.Native.Nat.{ℕ, _<_}
 use borrow.Fn.Kinds.{In}
 use borrow.Fn.PlainCycle.{Measures, is, falls, and}

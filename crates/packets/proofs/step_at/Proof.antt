@@ -1,5 +1,5 @@
 -- `packets::step_at` meets its contract: where the quick look finds a packet, it is the step.
-use mathlib.Core.Path.{sym, _∙_}
+use mathlib.Core.Path.{sym}
 use native.Mathlib.Omega.{arith}
 use borrow.Author.Needs.{needs}
 use Rattle.packets.proofs.step_at.Statement.{statement}
