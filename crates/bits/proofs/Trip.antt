@@ -25,7 +25,7 @@ gives-split s (x ∷ a) b u g = let r = gives-split (g .0) a b u (g .2) in (r .0
 
 -- ---- digits
 
-odd-bin : (c : ℕ) (b : Bool) → odd (2 * c + bin b) ≡ b
+pub odd-bin : (c : ℕ) (b : Bool) → odd (2 * c + bin b) ≡ b
 odd-bin c true = eq-eqb ((2 * c + 1) % 2) 1 (omega arith)
 odd-bin c false = ne-eqb ((2 * c + 0) % 2) 1 (omega arith)
 

@@ -2,7 +2,7 @@
 use mathlib.Core.Path.{_≡_, refl, sym, ap, subst, _∙_}
 use mathlib.Core.List.{List, [], _∷_}
 use mathlib.Core.Bool.{Bool, true, false, cond, not}
-use Prim.Native.Nat.{ℕ, zero, suc, _+_, _*_, _/_, _%_, _≤_, _<_}
+use Prim.Native.Nat.{ℕ, zero, suc, _+_, _/_, _%_, _≤_, _<_}
 use native.Mathlib.Numerals.{add-one}
 use native.Mathlib.Omega.{arith}
 use lib.Dec.{eqb}
@@ -16,7 +16,7 @@ use Rattle.laws.proofs.First.{first-found, all-pass}
 use Rattle.bits.specs.Digits.{digits}
 use Rattle.codes.specs.Table.{Table, holds, distinct, goodTable}
 use Rattle.codes.specs.Write.{placeOf}
-use Rattle.codes.specs.Code.{Assigned, Entered, Entries}
+use Rattle.codes.specs.Code.{Assigned, entryOf, Entered, Entries}
 use Rattle.codes.specs.declared.Code.{Code}
 use Rattle.codes.proofs.Laws.{good}
 
@@ -45,10 +45,21 @@ apart (v ∷ vs) (suc i) (suc j) d l h e = go (holds v vs) d (λ k. apart vs i j
     go true k f = let y : _≡_ {A = ℕ} 0 1 = cc in omega arith
     go false k f = f k
 
--- ---- the loop: the entries of the places so far
-
 abbrev other : List ℕ → ℕ → ℕ → Bool
 other values v i = not (eqb (getD values i 0) v)
+
+none-before : (vs : List ℕ) (k v : ℕ) → distinct vs ≡ true → k < length vs → v ≡ getD vs k 0 → firstFail k (other vs v) ≡ Nothing
+none-before vs k v d h e = all-pass k (other vs v) (λ i l. ap not (ne-eqb (getD vs i 0) v (λ q. apart vs i k d l h (q ∙ e))))
+
+first-there : (vs : List ℕ) (k v n : ℕ) → distinct vs ≡ true → k < length vs → v ≡ getD vs k 0 → k < n → firstFail n (other vs v) ≡ At k
+first-there vs k v n d h e l = first-found (other vs v) n k l (none-before vs k v d h e) (ap not (eq-eqb (getD vs k 0) v (sym e)))
+
+-- the place of the value at a place
+pub place-at : (vs : List ℕ) (k v : ℕ) → distinct vs ≡ true → k < length vs → v ≡ getD vs k 0 → placeOf v vs ≡ At k
+unfolding placeOf
+place-at vs k v d h e = first-there vs k v (length vs) d h e h
+
+-- ---- the loop: the entries of the places so far
 
 first-same : (test : ℕ → Bool) (i : ℕ) → test i ≡ true → firstFail (i + 1) test ≡ firstFail i test
 unfolding firstFail orHere
@@ -67,36 +78,32 @@ pub enter-start : (T : Table) → Entering T (replicate 256 0) 0
 unfolding firstFail digits
 enter-start T = record { within = omega arith; long = refl; each = λ v h. rw (getD-replicate {A = ℕ} 256 v 0 0 h) (record { same = refl; short = omega arith; none = refl }) }
 
-pub entered : {counts : List ℕ} {place : ℕ} {code : Code} → Assigned counts place code → Entered counts (At place) (32 * code .number + code .size)
+pub entered : {counts : List ℕ} {place : ℕ} {code : Code} → Assigned counts place code → Entered counts (At place) (entryOf code)
 entered {counts} {place} {code} a =
-    let m : (32 * code .number + code .size) % 32 ≡ code .size = omega (arith, a .short) in
-    let d : (32 * code .number + code .size) / 32 ≡ code .number = omega (arith, a .short) in
-    record { same = rw (m, d) (a .same); short = omega (arith, a .short); none = ne-eqb (32 * code .number + code .size) 0 (λ z. omega (arith, a .some)) }
+    let m : (entryOf code) % 32 ≡ code .size = omega (arith, a .short) in
+    let d : (entryOf code) / 32 ≡ code .number = omega (arith, a .short) in
+    record { same = rw (m, d) (a .same); short = omega (arith, a .short); none = ne-eqb (entryOf code) 0 (λ z. omega (arith, a .some)) }
 
 module _ {T : Table} {entries : List ℕ} {place : ℕ} (g : goodTable T ≡ true) (a : Entering T entries place) where
   pub enter-turn : {code : Code} {v : ℕ} → place < length (T .values) → Assigned (T .counts) place code → v ≡ getD (T .values) place 0 → v < 256
-      → Entering T (set entries v (32 * code .number + code .size)) (place + 1)
+      → Entering T (set entries v (entryOf code)) (place + 1)
   enter-turn {code} {v} h c e b = record {
     within = omega arith;
-    long = length-set entries v (32 * code .number + code .size) ∙ a .long;
+    long = length-set entries v (entryOf code) ∙ a .long;
     each = λ w k. turned w k (eqb (getD (T .values) place 0) w) refl;
   }
     where
-      none-before : firstFail place (other (T .values) v) ≡ Nothing
-      none-before =
-          all-pass place (other (T .values) v) (λ k l. ap not (ne-eqb (getD (T .values) k 0) v (λ q. apart (T .values) k place (good T g .apart) l h (q ∙ e))))
-
-      here : Entered (T .counts) (firstFail (place + 1) (other (T .values) v)) (getD (set entries v (32 * code .number + code .size)) v 0)
+      here : Entered (T .counts) (firstFail (place + 1) (other (T .values) v)) (getD (set entries v (entryOf code)) v 0)
       here =
-          rw (getD-set-same entries v (32 * code .number + code .size) 0 (omega (arith, a .long)), first-found (other (T .values) v) (place + 1) place (omega arith) none-before (ap not (eq-eqb (getD (T .values) place 0) v (sym e))))
+          rw (getD-set-same entries v (entryOf code) 0 (omega (arith, a .long)), first-there (T .values) place v (place + 1) (good T g .apart) h e (omega arith))
           (entered c)
 
       turned : (w : ℕ) → w < 256 → (t : Bool) → eqb (getD (T .values) place 0) w ≡ t
-          → Entered (T .counts) (firstFail (place + 1) (other (T .values) w)) (getD (set entries v (32 * code .number + code .size)) w 0)
+          → Entered (T .counts) (firstFail (place + 1) (other (T .values) w)) (getD (set entries v (entryOf code)) w 0)
       turned w k true q =
-          subst (λ (x : ℕ). Entered (T .counts) (firstFail (place + 1) (other (T .values) x)) (getD (set entries v (32 * code .number + code .size)) x 0)) (e ∙ eqb-true (getD (T .values) place 0) w q) here
+          subst (λ (x : ℕ). Entered (T .counts) (firstFail (place + 1) (other (T .values) x)) (getD (set entries v (entryOf code)) x 0)) (e ∙ eqb-true (getD (T .values) place 0) w q) here
       turned w k false q =
-          rw (getD-set-other entries v w (32 * code .number + code .size) 0 (λ z. eqb-false (getD (T .values) place 0) w q (sym e ∙ sym z)), first-same (other (T .values) w) place (ap not q))
+          rw (getD-set-other entries v w (entryOf code) 0 (λ z. eqb-false (getD (T .values) place 0) w q (sym e ∙ sym z)), first-same (other (T .values) w) place (ap not q))
           (a .each w k)
 
   pub enter-end : length (T .values) ≤ place → Entries T entries

@@ -3,3 +3,4 @@ pub mod Laws
 pub mod Reading
 pub mod Trip
 pub mod Entering
+pub mod Words

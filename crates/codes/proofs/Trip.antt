@@ -29,7 +29,7 @@ halve N m = rw (pow-suc 2 m) (sym (div-div-eq-div-mul N (2 ^ m) 2))
 
 -- ---- the code of the k-th value is the number N, m bits longer than the first count's; the first length's codes begin at 2g
 
-abbrev Coded : List ℕ → ℕ → ℕ → ℕ → ℕ → Type 0
+abbrev pub Coded : List ℕ → ℕ → ℕ → ℕ → ℕ → Type 0
 Coded [] g k m N = ⊥
 Coded (n ∷ ns) g k zero N = (k < n) × (N ≡ 2 * g + k)
 Coded (n ∷ ns) g k (suc m) N = (n ≤ k) × Coded ns (2 * g + n) (k - n) m N

@@ -2,7 +2,7 @@
 use mathlib.Core.Path.{_≡_}
 use mathlib.Core.Bool.{Bool, true, false}
 use mathlib.Core.List.{List}
-use Prim.Native.Nat.{ℕ, _/_, _%_, _^_, _≤_, _<_}
+use Prim.Native.Nat.{ℕ, _+_, _*_, _/_, _%_, _^_, _≤_, _<_}
 use lib.Dec.{eqb}
 use lib.ListN.{getD}
 use Rattle.laws.specs.declared.Found.{Found}
@@ -23,7 +23,11 @@ abbrev pub absent : Found → Bool
 absent (At k) = false
 absent Nothing = true
 
--- an entry is 32 times the number that a code's bits make, and how many they are; 0 where no place was found
+-- a code in one number: 32 times the number that its bits make, and how many they are
+abbrev pub entryOf : Code → ℕ
+entryOf code = 32 * code .number + code .size
+
+-- an entry tells the bits of a code; it is 0 where no place was found
 pub record Entered (counts : List ℕ) (found : Found) (entry : ℕ) : Type 0 where
   pub same : digits (entry % 32) (entry / 32) ≡ codeOf counts found
   pub short : entry % 32 ≤ 16

@@ -62,12 +62,12 @@ fn kraft_of(counts: &[u8]) -> usize
 fn holds_from(values: &[u8], from: usize, v: u8) -> bool
     ensures { λ r. ⌜ r ≡ holds v (drop from (now (values .entry))) ⌝ }
 {
-    let mut i = from;
-    while i < values.len() {
-        if values[i] == v {
+    let mut at = from;
+    while at < values.len() {
+        if values[at] == v {
             return true;
         }
-        i += 1;
+        at += 1;
     }
     false
 }

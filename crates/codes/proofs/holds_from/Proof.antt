@@ -9,10 +9,10 @@ use Rattle.codes.proofs.holds_from.Statement.{statement}
 use Rattle.codes.proofs.holds_from.Tie as tie
 
 abbrev Inv-loop : tie.InvT-loop
-Inv-loop values from v i₀ i = holds v (drop i values) ≡ holds v (drop from values)
+Inv-loop values from v at₀ at = holds v (drop at values) ≡ holds v (drop from values)
 
 abbrev μ-loop : tie.MeasureT-loop
-μ-loop values from v i₀ i = length values - i
+μ-loop values from v at₀ at = length values - at
 
 loop-holds : tie.Need-loop-holds Inv-loop μ-loop
 loop-holds c = refl
