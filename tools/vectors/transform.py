@@ -170,10 +170,11 @@ group('the order of refusals', [
     ((22, 8), (0, 1, one_at(1, 9999), q_at(8, 0), 1)), ((22, 8), (0, 1, ZEROS, q_at(8, 999), 1)),
     ((11, 1), (0, 1, one_at(1, 9999), ONES, 1)), ((9, 64), (0, 1, ZEROS, ONES, 1))])
 
-folder = os.path.join(os.path.dirname(os.path.abspath(__file__)), '..', '..', 'crates', 'transform_vectors')
-stdin, stdout = (os.path.join(folder, name) for name in ('stdin', 'stdout'))
-if '--check' in sys.argv[1:]:
-    same = open(stdin, 'rb').read() == fields.data(RECORDS) and open(stdout).read() == fields.text(RECORDS)
-    print('as computed here' if same else 'NOT as computed here')
-    sys.exit(not same)
-fields.write(RECORDS, stdin, stdout)
+if __name__ == '__main__':
+    folder = os.path.join(os.path.dirname(os.path.abspath(__file__)), '..', '..', 'crates', 'transform_vectors')
+    stdin, stdout = (os.path.join(folder, name) for name in ('stdin', 'stdout'))
+    if '--check' in sys.argv[1:]:
+        same = open(stdin, 'rb').read() == fields.data(RECORDS) and open(stdout).read() == fields.text(RECORDS)
+        print('as computed here' if same else 'NOT as computed here')
+        sys.exit(not same)
+    fields.write(RECORDS, stdin, stdout)

@@ -1,9 +1,9 @@
 -- The kernel, the double sum and the rounding at chosen numbers, worked out by hand from 01 and computed on the definitions. Assumes nothing.
 use mathlib.Core.Path.{_≡_, refl}
-use mathlib.Core.List.{List, [], _∷_, map}
+use mathlib.Core.List.{List, [], _∷_, map, _++_}
 use Prim.Native.Nat.{ℕ}
 use lib.IntN.{ℤ, pos, negsuc}
-use lib.ListN.{getD}
+use lib.ListN.{getD, replicate}
 use Rattle.laws.specs.Index.{sumTo, tab}
 use Rattle.kernel.specs.Cosines.{nineCosines, halfTurn, fullTurn, kernel, kernelTable}
 use Rattle.kernel.specs.Samples.{product, rowSum, doubleSum, rounded, sample, blockSamples}
@@ -43,6 +43,11 @@ products-apart = refl
 pub sums : rowSum two 0 7 0 ∷ rowSum two 0 7 1 ∷ doubleSum two 0 7 ∷ [] ≡ pos 46546755000 ∷ negsuc 46546754 ∷ pos 46500208245 ∷ []
 unfolding two doubleSum rowSum sumTo product kernel fullTurn halfTurn nineCosines
 sums = refl
+
+-- to the last frequencies, at row 0, column 0: 1 at u 7, 10 at v 7 and 100 at both: 9257214 + 92572140 + 255360400
+pub sums-to-the-end : doubleSum (replicate 7 (pos 0) ++ (pos 1 ∷ replicate 48 (pos 0)) ++ (pos 10 ∷ replicate 6 (pos 0)) ++ (pos 100 ∷ [])) 0 0 ≡ pos 357189754
+unfolding doubleSum rowSum sumTo product kernel fullTurn halfTurn nineCosines
+sums-to-the-end = refl
 
 -- "floor((sum + 2^27) / 2^28) + 2^(7+R)" on both sides of a half and of minus a half, at the centre 256
 pub halves-up : map (λ s. rounded s (pos 256)) (pos 134217727 ∷ pos 134217728 ∷ negsuc 134217727 ∷ negsuc 134217728 ∷ []) ≡ pos 256 ∷ pos 257 ∷ pos 256 ∷ pos 255 ∷ []
