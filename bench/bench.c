@@ -93,7 +93,7 @@ static uint32_t mg(size_t n, uint64_t *p) { return xt_merge(8, 4, 4, 3, n, 1, 0,
 static uint32_t mg1(size_t n, uint64_t *p) { return xt_merge(8, 0, 0, 1, n, 0, 0, 0, 0, 0, base, n, residual, 0, quantisers, 0, (const int16_t *)quantisers, 0, merged1, n, p); }
 
 /* `size` bytes of box in packets of `each`, in file order or backward */
-static size_t each, backward;
+static size_t each, backward, lost;
 static size_t made;
 static void made_for(size_t size);
 static uint32_t bx(size_t n, uint64_t *p) { made_for(n); return xt_box_bytes(file, file_len, 0x46494E45, 1, box1, sizeof box1, p); }
@@ -129,26 +129,30 @@ static void picture(size_t size)
     file_len = 2;
     file[0] = 0xFF;
     file[1] = 0xD8;
-    for (size_t i = 0; i < n; i++) packet((uint32_t)(backward ? n - i : i + 1), (uint32_t)(n * each + 8), each);
+    for (size_t i = 0; i < n; i++) packet((uint32_t)(backward ? n - i : i + 1 + (lost && i >= n / 2)), (uint32_t)(n * each + 8), each);
     file[file_len++] = 0xFF;
     file[file_len++] = 0xDA;
 }
 static void made_for(size_t size) { if (made != size) { picture(size); made = size; } }
 
-/* how xt_box_bytes grows: packets of 20 bytes, in file order and backward */
+/* how xt_box_bytes grows: packets of 20 bytes, in file order, backward, and in order with one lost in the middle (7) */
 static void growth(void)
 {
-    printf("\n| bytes of box, packets of 20 | in order, ns a byte | plain C, gcc | backward, ns a byte | plain C, gcc |\n|---|---|---|---|---|\n");
+    printf("\n| bytes of box, packets of 20 | in order, ns a byte | plain C, gcc | backward, ns a byte | plain C, gcc | one lost, ns a byte | plain C, gcc |\n|---|---|---|---|---|---|---|\n");
     each = 20;
     for (size_t size = 50000; size <= 1600000; size *= 2) {
-        double ns[2][TIMES];
-        for (backward = 0; backward < 2; backward++) {
+        double ns[3][TIMES];
+        for (int k = 0; k < 3; k++) {
             run by[TIMES] = {bx, gcc_bx, 0, 0};
+            backward = k == 1;
+            lost = k == 2;
             made = 0;
-            times(ns[backward], by, size);
+            times(ns[k], by, size);
         }
         double unit = 1e9 / (double)size;
-        printf("| %zu | %.1f | %.1f | %.1f | %.1f |\n", size, ns[0][OURS] * unit, ns[0][GCC] * unit, ns[1][OURS] * unit, ns[1][GCC] * unit);
+        printf("| %zu |", size);
+        for (int k = 0; k < 3; k++) printf(" %.1f | %.1f |", ns[k][OURS] * unit, ns[k][GCC] * unit);
+        printf("\n");
     }
 }
 
