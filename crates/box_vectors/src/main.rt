@@ -1,5 +1,14 @@
-// Runs the vectors that tools/vectors/boxes.py made through `boxes::box_bytes`: a line for each group.
+// Runs the vectors that tools/vectors/boxes.py made through `xt_box_bytes`: a line for each group.
+use answers::Answer;
 use tallies::Finding;
+
+// What a call for C answered.
+fn called(number: u32, place: u64) -> Answer {
+    Answer {
+        number,
+        place: place as usize,
+    }
+}
 
 // A record: group, type, instance, room, the file, and the number, place and bytes expected.
 fn boxed(bytes: &[u8], at: usize, told: usize, output: &mut [u8]) -> bool {
@@ -10,7 +19,9 @@ fn boxed(bytes: &[u8], at: usize, told: usize, output: &mut [u8]) -> bool {
     let number = records::number_at(bytes, told);
     let place = records::number_at(bytes, records::past(end, told, 4));
     let expected = records::lent(bytes, records::past(end, told, 8));
-    let a = boxes::box_bytes(file, kind, instance, output);
+    let mut at_place = 99u64;
+    let answered = reader_c::xt_box_bytes(file, kind, instance, output, &mut at_place);
+    let a = called(answered, at_place);
     let wrong = tallies::first_wrong_byte(output, expected, number);
     tallies::right(a, number, place, wrong)
 }

@@ -122,24 +122,55 @@ fn is_ac(kind: usize) -> bool {
     }
 }
 
+// What a call for C answered.
+fn called(number: u32, place: u64) -> Answer {
+    Answer {
+        number,
+        place: place as usize,
+    }
+}
+
 // The call that a record asks for, on its data and its table.
 fn read_plane(bytes: &[u8], c: Case, values: &[i32], output: &mut [i32]) -> Answer {
     let data = records::lent(bytes, c.data);
+    let mut place = 99u64;
     if is_ac(c.kind) {
         let counts = records::lent(bytes, c.counts);
         let codes = records::lent(bytes, c.codes);
-        return ac_reader::read_ac(c.plane, c.blocks, counts, codes, data, values, output);
+        let ac = reader_c::xt_read_ac_plane(
+            c.plane,
+            c.blocks,
+            counts,
+            codes,
+            data,
+            values,
+            output,
+            &mut place,
+        );
+        return called(ac, place);
     }
-    planes::read_dc(c.plane, c.blocks, data, values, output)
+    let dc = reader_c::xt_read_dc_plane(c.plane, c.blocks, data, values, output, &mut place);
+    called(dc, place)
 }
 
 fn write_plane(bytes: &[u8], c: Case, values: &[i32], output: &mut [u8]) -> Answer {
+    let mut place = 99u64;
     if is_ac(c.kind) {
         let counts = records::lent(bytes, c.counts);
         let codes = records::lent(bytes, c.codes);
-        return ac_writer::write_ac(c.plane, c.blocks, counts, codes, values, output);
+        let ac = reader_c::xt_write_ac_plane(
+            c.plane,
+            c.blocks,
+            counts,
+            codes,
+            values,
+            output,
+            &mut place,
+        );
+        return called(ac, place);
     }
-    planes::write_dc(c.plane, c.blocks, values, output)
+    let dc = reader_c::xt_write_dc_plane(c.plane, c.blocks, values, output, &mut place);
+    called(dc, place)
 }
 
 // A plane is read, and number, place and the whole destination are right.
