@@ -32,7 +32,8 @@ def packet(number, payload, lbox, instance=1, kind=b'LPTS', fill=1):
 def broken_heads():
     """3 of both kinds, of the asked packet and of a stranger, alone, behind fill and behind other segments; what is skipped; and 2 before 3 at one segment."""
     good = packet(1, b'ab', 10)
-    heads = [packet(1, b'', lbox, instance, kind, fill) for lbox in (0, 7, 8) for instance, kind in ((1, b'LPTS'), (2, b'LPTS'), (1, b'FINE')) for fill in (1, 3)]
+    owners = ((1, b'LPTS'), (2, b'LPTS'), (1, b'FINE'))
+    heads = [packet(1, b'', lbox, instance, kind, fill) for lbox in (0, 7, 8) for instance, kind in owners for fill in (1, 3)]
     heads += [b'\xff\xeb' + struct.pack('>H', n) + (b'JP' + bytes(14))[:n - 2] for n in range(2, 18)]
     heads += [b'\xff\xeb\0\4' + tag for tag in (b'JQ', b'KP')] + [b'\xff\xec\0\4JP', b'\xff\xec' + packet(1, b'', 7)[2:]]
     for head in heads:

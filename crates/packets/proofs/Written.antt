@@ -232,7 +232,8 @@ module _ (fill : ℕ) (behind : List ℕ) where
       let later = walked r file (front ++ segment k 0xEB (inner p)) _ (g ∙ sym (append-assoc front (segment k 0xEB (inner p)) (allBytes r ++ last)))
       (sym (behind-of file front (inner p) (allBytes r ++ last) at k 0xEB g f (λ z. omega arith))) (s .1) in
       record {
-        met = packets-meet file at z ∙ ap₂ (λ (b : List ℕ) (l : List Packet). record { head = p .head; payload = b } ∷ l) (is-payload file front (allBytes r ++ last) at k p g f (s .0)) (later .met);
+        met = packets-meet file at z
+            ∙ ap₂ (λ (b : List ℕ) (l : List Packet). record { head = p .head; payload = b } ∷ l) (is-payload file front (allBytes r ++ last) at k p g f (s .0)) (later .met);
         well = ending-meet file at z ∙ later .well;
       }
 

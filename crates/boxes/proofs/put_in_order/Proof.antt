@@ -27,13 +27,20 @@ sub-copy-part : tie.Need-sub-copy-part Inv-loop μ-loop
 sub-copy-part c = let m = c .before .mine-here .ensures (c .if1 .taken) in omega arith
 
 copy-part-requires : tie.Need-copy-part-requires Inv-loop μ-loop
-copy-part-requires c κs = let m = c .before .before .mine-here .ensures (c .before .if1 .taken) in (omega arith, payload-turn (c .before .before .before .loop .inv) m .0)
+copy-part-requires c κs =
+    let m = c .before .before .mine-here .ensures (c .before .if1 .taken) in
+    (omega arith, payload-turn (c .before .before .before .loop .inv) m .0)
 
 sub-to : tie.Need-sub-to Inv-loop μ-loop
 sub-to c = let m = c .before .before .before .before .before .mine-here .ensures (c .before .before .before .before .if1 .taken) in omega arith
 
 add-to : tie.Need-add-to Inv-loop μ-loop
-add-to c = let i = c .before .before .before .before .before .before .loop .inv in let m = c .before .before .before .before .before .mine-here .ensures (c .before .before .before .before .if1 .taken) in omega (arith, payload-turn i m .0, i .size)
+add-to c =
+    let at-if1 = c .before .before .before .before in
+    let at-mine-here = at-if1 .before in
+    let i = at-mine-here .before .loop .inv in
+    let m = at-mine-here .mine-here .ensures (at-if1 .if1 .taken) in
+    omega (arith, payload-turn i m .0, i .size)
 
 add-at : tie.Need-add-at Inv-loop μ-loop
 add-at c = let m = c .before .before .before .before .before .mine-here .ensures (c .before .before .before .before .if1 .taken) in omega arith
@@ -45,25 +52,52 @@ loop-less : tie.Need-loop-less Inv-loop μ-loop
 loop-less c = let m = c .before .before .before .before .before .mine-here .ensures (c .before .before .before .before .if1 .taken) in omega arith
 
 loop-again : tie.Need-loop-again Inv-loop μ-loop
-loop-again c = payload-turn (c .before .before .before .before .before .before .loop .inv) (c .before .before .before .before .before .mine-here .ensures (c .before .before .before .before .if1 .taken)) .1 _ (c .before .before .copy-part .ensures)
+loop-again c =
+    let at-if1 = c .before .before .before .before in
+    let at-mine-here = at-if1 .before in
+    let i = at-mine-here .before .loop .inv in
+    let m = at-mine-here .mine-here .ensures (at-if1 .if1 .taken) in
+    payload-turn i m .1 _ (c .before .before .copy-part .ensures)
 
 same-length : tie.Need-same-length Inv-loop μ-loop
 same-length c = c .before .before .before .before .before .loop .inv .size
 
 returns : tie.Need-returns Inv-loop μ-loop
-returns c = write-done (c .before .before .before .before .before .loop .inv) (payloads-none (gone _ _ _ _ (c .before .before .next-mine .ensures) (c .enum-told .given .1))) .0
+returns c =
+    let at-next-mine = c .before .before in
+    write-done (at-next-mine .before .before .before .loop .inv) (payloads-none (gone _ _ _ _ (at-next-mine .next-mine .ensures) (c .enum-told .given .1))) .0
 
 copy-part-requires-2 : tie.Need-copy-part-requires-2 Inv-loop μ-loop
-copy-part-requires-2 c κs = let m = met _ _ _ _ (c .before .before .before .before .next-mine .ensures) (c .before .before .start .given .1) in (omega arith, payload-turn (c .before .before .before .before .before .before .before .loop .inv) m .0)
+copy-part-requires-2 c κs =
+    let at-start = c .before .before in
+    let at-next-mine = at-start .before .before in
+    let m = met _ _ _ _ (at-next-mine .next-mine .ensures) (at-start .start .given .1) in
+    (omega arith, payload-turn (at-next-mine .before .before .before .loop .inv) m .0)
 
 add-to-2 : tie.Need-add-to-2 Inv-loop μ-loop
-add-to-2 c = let i = c .before .before .before .before .before .before .before .before .before .before .loop .inv in let m = met _ _ _ _ (c .before .before .before .before .before .before .before .next-mine .ensures) (c .before .before .before .before .before .start .given .1) in omega (arith, payload-turn i m .0, i .size)
+add-to-2 c =
+    let at-start = c .before .before .before .before .before in
+    let at-next-mine = at-start .before .before in
+    let at-loop = at-next-mine .before .before .before in
+    let i = at-loop .loop .inv in
+    let m = met _ _ _ _ (at-next-mine .next-mine .ensures) (at-start .start .given .1) in
+    omega (arith, at-loop .before .before .before .good, payload-turn i m .0, i .size)
 
 loop-less-2 : tie.Need-loop-less-2 Inv-loop μ-loop
-loop-less-2 c = let m = met _ _ _ _ (c .before .before .before .before .before .before .before .next-mine .ensures) (c .before .before .before .before .before .start .given .1) in omega arith
+loop-less-2 c =
+    let at-start = c .before .before .before .before .before in
+    let at-next-mine = at-start .before .before in
+    let i = at-next-mine .before .before .before .loop .inv in
+    let m = met _ _ _ _ (at-next-mine .next-mine .ensures) (at-start .start .given .1) in
+    omega arith
 
 loop-again-2 : tie.Need-loop-again-2 Inv-loop μ-loop
-loop-again-2 c = payload-turn (c .before .before .before .before .before .before .before .before .before .before .loop .inv) (met _ _ _ _ (c .before .before .before .before .before .before .before .next-mine .ensures) (c .before .before .before .before .before .start .given .1)) .1 _ (c .before .before .copy-part2 .ensures)
+loop-again-2 c =
+    let at-start = c .before .before .before .before .before in
+    let at-next-mine = at-start .before .before in
+    let i = at-next-mine .before .before .before .loop .inv in
+    let m = met _ _ _ _ (at-next-mine .next-mine .ensures) (at-start .start .given .1) in
+    payload-turn i m .1 _ (c .before .before .copy-part2 .ensures)
 
 pub put-in-order-spec : {M : Type 1} → statement M
 put-in-order-spec =

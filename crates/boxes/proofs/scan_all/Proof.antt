@@ -41,7 +41,9 @@ loop-less : tie.Need-loop-less Inv-loop μ-loop
 loop-less c = let m = c .before .before .before .mine-here .ensures (c .before .before .if1 .taken) in omega (arith, ap (λ (s : Scan). s .end) (c .found-more .ensures))
 
 loop-again : tie.Need-loop-again Inv-loop μ-loop
-loop-again c = pass-turn _ _ _ _ (c .before .before .before .before .loop .inv) (c .before .before .before .mine-here .ensures (c .before .before .if1 .taken)) (rw (c .before .head-at .ensures) at (c .found-more .ensures))
+loop-again c =
+    let at-mine-here = c .before .before .before in
+    pass-turn _ _ _ _ (at-mine-here .before .loop .inv) (at-mine-here .mine-here .ensures (c .before .before .if1 .taken)) (rw (c .before .head-at .ensures) at (c .found-more .ensures))
 
 returns : tie.Need-returns Inv-loop μ-loop
 returns c = let i = c .before .before .before .before .before .loop .inv in
@@ -51,10 +53,18 @@ found-more-requires-2 : tie.Need-found-more-requires-2 Inv-loop μ-loop
 found-more-requires-2 c κs = let m = met _ _ _ _ (c .before .before .before .next-mine .ensures) (c .before .head .given .1) in omega arith
 
 loop-less-2 : tie.Need-loop-less-2 Inv-loop μ-loop
-loop-less-2 c = let m = met _ _ _ _ (c .before .before .before .before .next-mine .ensures) (c .before .before .head .given .1) in omega (arith, ap (λ (s : Scan). s .end) (c .found-more2 .ensures))
+loop-less-2 c =
+    let at-head = c .before .before in
+    let at-next-mine = at-head .before .before in
+    let m = met _ _ _ _ (at-next-mine .next-mine .ensures) (at-head .head .given .1) in
+    omega (arith, ap (λ (s : Scan). s .end) (c .found-more2 .ensures))
 
 loop-again-2 : tie.Need-loop-again-2 Inv-loop μ-loop
-loop-again-2 c = pass-turn _ _ _ _ (c .before .before .before .before .before .before .before .loop .inv) (met _ _ _ _ (c .before .before .before .before .next-mine .ensures) (c .before .before .head .given .1)) (c .found-more2 .ensures)
+loop-again-2 c =
+    let at-head = c .before .before in
+    let at-next-mine = at-head .before .before in
+    let m = met _ _ _ _ (at-next-mine .next-mine .ensures) (at-head .head .given .1) in
+    pass-turn _ _ _ _ (at-next-mine .before .before .before .loop .inv) m (c .found-more2 .ensures)
 
 pub scan-all-spec : {M : Type 1} → statement M
 scan-all-spec =
