@@ -2,7 +2,10 @@
 """box_check: random files with fill, strangers, shuffles, repeats, gaps, damage and cuts; what target/bin/box_out and
 target/bin/listing write is held to a second reading of document 01, written here. Prints how often each number was met.
 Run `rt check box_out listing` first.  box_check.py [FILES] [SEED]"""
-import collections, random, struct, subprocess, sys
+import collections, platform, random, struct, subprocess, sys
+
+# on a machine that is not x86-64 the programs run under Debian's qemu-user and libc6-amd64-cross
+RUN = [] if platform.machine() == 'x86_64' else ['qemu-x86_64', '-L', '/usr/x86_64-linux-gnu']
 
 def walk(d):
     """the packets (instance, number, LBox, type, payload), or a number and a place"""
@@ -70,11 +73,11 @@ files, seed = (int(sys.argv[1]) if len(sys.argv) > 1 else 1000), (int(sys.argv[2
 r, met = random.Random(seed), collections.Counter()
 for k in range(files):
     d = made(r)
-    p = subprocess.run(['target/bin/listing'], input=d, capture_output=True)
+    p = subprocess.run(RUN + ['target/bin/listing'], input=d, capture_output=True)
     if p.stdout.decode() != listing(d): sys.exit(f'file {k}: listing differs: {d.hex()}')
     n, x = box(d, b'LPTS', 1)
     met[n] += 1
-    p = subprocess.run(['target/bin/box_out', 'LPTS', '1'], input=d, capture_output=True)
+    p = subprocess.run(RUN + ['target/bin/box_out', 'LPTS', '1'], input=d, capture_output=True)
     want = (x, b'') if n == 0 else (b'', b'answer %d %d\n' % (n, x))
     if (p.stdout, p.stderr) != want: sys.exit(f'file {k}: box differs: {d.hex()}')
 print(f'{files} files agree; numbers met:', ' '.join(f'{n}: {met[n]}' for n in sorted(met)))
