@@ -53,7 +53,7 @@ pub quantiser-edges : map isQuantiser (0 ∷ 1 ∷ 255 ∷ 256 ∷ []) ≡ false
 unfolding isQuantiser every
 quantiser-edges = refl
 
-pub quantiser-first : map firstBadQuantiser ((1 ∷ 255 ∷ 256 ∷ 0 ∷ []) ∷ (1 ∷ 0 ∷ 256 ∷ []) ∷ (1 ∷ 255 ∷ []) ∷ []) ≡ At 2 ∷ At 1 ∷ Nothing ∷ []
+pub quantiser-first : map firstBadQuantiser ((1 ∷ 255 ∷ 256 ∷ []) ∷ (1 ∷ 0 ∷ 256 ∷ []) ∷ (1 ∷ 255 ∷ []) ∷ []) ≡ At 2 ∷ At 1 ∷ Nothing ∷ []
 unfolding firstBadQuantiser isQuantiser firstFail orHere every
 quantiser-first = refl
 
