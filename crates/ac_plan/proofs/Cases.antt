@@ -6,9 +6,9 @@ use mathlib.Core.Option.{none, some}
 use Prim.Native.Nat.{ℕ}
 use lib.IntN.{ℤ, pos, negsuc}
 use lib.ListN.{replicate}
-use Rattle.planes.specs.Task.{walk, ended, over}
-use Rattle.planes.specs.AcRead.{cut}
-use Rattle.planes.specs.AcWrite.{keep, still, fresh, kindOf, oneMore, ahead, quiet, plan, after}
+use Rattle.plane_rules.specs.Task.{walk, ended, over}
+use Rattle.plane_rules.specs.AcRead.{cut}
+use Rattle.plane_rules.specs.AcWrite.{keep, still, fresh, kindOf, oneMore, ahead, quiet, plan, after}
 use Rattle.ac_plan.specs.Plan.{kindsFrom, kindBlocks}
 
 abbrev zeros : ℕ → List ℤ

@@ -10,9 +10,9 @@ use mir.Syntax.{w32}
 use mir.Val.{SFits, ofZ}
 use borrow.Author.Tests.{eqb-true, eqb-false, eq-eqb, ne-eqb}
 use Rattle.laws.proofs.Integers.{bits-one}
-use Rattle.bits.specs.Digits.{odd}
-use Rattle.planes.specs.Dc.{dcBit}
-use Rattle.planes.specs.AcWrite.{keep, kindOf}
+use Rattle.bit_rules.specs.Digits.{odd}
+use Rattle.plane_rules.specs.Dc.{dcBit}
+use Rattle.plane_rules.specs.AcWrite.{keep, kindOf}
 use Rattle.planes.proofs.DcWriting.{low-bit}
 use Rattle.ac_plan.specs.Plan.{stillIs}
 

@@ -9,9 +9,9 @@ use native.Mathlib.Omega.{arith}
 use lib.IntN.{ℤ, pos, negsuc}
 use lib.ListN.{length, getD, take, drop, drop-of-length-le}
 use lib.Seq.{drop-cons, drop-drop}
-use Rattle.bits.specs.Digits.{odd}
-use Rattle.planes.specs.AcRead.{cut}
-use Rattle.planes.specs.AcWrite.{Kind, fresh, kindOf, ahead, oneMore, quiet, unlessNew}
+use Rattle.bit_rules.specs.Digits.{odd}
+use Rattle.plane_rules.specs.AcRead.{cut}
+use Rattle.plane_rules.specs.AcWrite.{Kind, fresh, kindOf, ahead, oneMore, quiet, unlessNew}
 use Rattle.ac_plan.specs.Plan.{kindsFrom, kindBlocks, kindIs, stillIs, comingIs}
 use Rattle.ac_plan.specs.declared.Change.{Change}
 use Rattle.ac_plan.specs.declared.Change.the-variants.{Kept, Still, Fresh}

@@ -7,8 +7,8 @@ use Prim.Native.Nat.{ℕ, zero, suc, _-_, _≤_, _<_}
 use native.Mathlib.Numerals.{sub-one}
 use native.Mathlib.Omega.{arith}
 use borrow.Author.Tests.{lt-ltb, le-ltb}
-use Rattle.planes.specs.Task.{ended, over}
-use Rattle.planes.specs.AcWrite.{Kind, ahead, quiet, plan}
+use Rattle.plane_rules.specs.Task.{ended, over}
+use Rattle.plane_rules.specs.AcWrite.{Kind, ahead, quiet, plan}
 use Rattle.ac_tasks.specs.declared.Job.the-variants.{Leave, Set, Ended}
 use Rattle.ac_plan.specs.Plan.{comingIs, Planned}
 use Rattle.ac_plan.specs.declared.Coming.{Coming}

@@ -6,9 +6,9 @@ use mathlib.Core.Option.{Option, none, some}
 use Prim.Native.Nat.{ℕ, _≤_, _<_}
 use lib.IntN.{ℤ}
 use lib.ListN.{drop}
-use Rattle.planes.specs.Task.{Task}
-use Rattle.planes.specs.AcRead.{cut}
-use Rattle.planes.specs.AcWrite.{Kind, keep, still, fresh, kindOf}
+use Rattle.plane_rules.specs.Task.{Task}
+use Rattle.plane_rules.specs.AcRead.{cut}
+use Rattle.plane_rules.specs.AcWrite.{Kind, keep, still, fresh, kindOf}
 use Rattle.ac_tasks.specs.Code.{taskOf}
 use Rattle.ac_tasks.specs.declared.Job.{Job}
 use Rattle.ac_tasks.specs.declared.Job.the-variants.{Leave, Set, Ended}

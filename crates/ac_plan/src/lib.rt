@@ -2,8 +2,8 @@
 ghost use mathlib.Core.Path.{_≡_};
 ghost use Prim.Native.Nat.{_*_, _≤_};
 ghost use lib.ListN.{length};
-ghost use Rattle.planes.specs.Task as defined;
-ghost use Rattle.planes.specs.AcWrite as written;
+ghost use Rattle.plane_rules.specs.Task as defined;
+ghost use Rattle.plane_rules.specs.AcWrite as written;
 ghost use Rattle.ac_tasks.specs.Code.{openOf};
 ghost use Rattle.ac_plan.specs.Plan.{kindsFrom, kindBlocks, kindIs, stillIs, comingIs, Planned};
 use ac_tasks::Job;

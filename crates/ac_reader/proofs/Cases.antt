@@ -8,13 +8,13 @@ use Rattle.laws.specs.Index.{every}
 use Rattle.laws.specs.First.{orHere, firstFail}
 use Rattle.answers.specs.Verdict.{given, refused, refusal}
 use Rattle.levels.specs.Level.{inLevel, isDc, inside, firstOutside}
-use Rattle.bits.specs.Digits.{digits}
-use Rattle.bits.specs.Source.{opened, afterFF, nextByte, takeFrom, takeBit, onlyPadding}
-use Rattle.codes.specs.Table.{Table, table, codeCount, kraft, holds, distinct, goodTable}
-use Rattle.codes.specs.Read.{codeFrom, takeCode}
-use Rattle.planes.specs.Plane.{onto, closed}
-use Rattle.planes.specs.AcRead.{takeNumber, endRun, meaning, taskAt, position, blockEnd, acBlock, cut, acBlocks, readAc}
-use Rattle.planes.proofs.Cases.{T, block, Reading, reading}
+use Rattle.bit_rules.specs.Digits.{digits}
+use Rattle.bit_rules.specs.Source.{opened, afterFF, nextByte, takeFrom, takeBit, onlyPadding}
+use Rattle.bit_rules.specs.Table.{Table, table, codeCount, kraft, holds, distinct, goodTable}
+use Rattle.bit_rules.specs.Read.{codeFrom, takeCode}
+use Rattle.plane_rules.specs.Plane.{onto, closed}
+use Rattle.plane_rules.specs.AcRead.{takeNumber, endRun, meaning, taskAt, position, blockEnd, acBlock, cut, acBlocks, readAc}
+use Rattle.plane_rules.proofs.Cases.{T, block, Reading, reading}
 
 abbrev pub zeros : ℕ → List ℤ
 zeros n = replicate n (pos 0)

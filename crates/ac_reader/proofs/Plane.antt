@@ -13,13 +13,13 @@ use borrow.Rule.Slice.PartMut.{putMid, drop-put, same-len-mid, mid-len}
 use Rattle.laws.proofs.Integers.{split}
 use Rattle.laws.proofs.Parts.{drop-later, take-put-end}
 use Rattle.answers.specs.Verdict.{refusal}
-use Rattle.bits.specs.Source.{start, got, stopped}
+use Rattle.bit_rules.specs.Source.{start, got, stopped}
 use Rattle.bits.specs.Code.{sourceOf, highs}
-use Rattle.bits.specs.declared.Stop.{Stop}
+use Rattle.bit_rules.specs.declared.Stop.{Stop}
 use Rattle.bits.specs.declared.Cursor.{Cursor}
-use Rattle.codes.specs.Table.{Table}
-use Rattle.planes.specs.Plane.{Plane, read, onto}
-use Rattle.planes.specs.AcRead.{acBlock, acBlocks, cut}
+use Rattle.bit_rules.specs.Table.{Table}
+use Rattle.plane_rules.specs.Plane.{Plane, read, onto}
+use Rattle.plane_rules.specs.AcRead.{acBlock, acBlocks, cut}
 use Rattle.planes.specs.Code.{planeOf, Ran, Small}
 use Rattle.planes.specs.declared.Blocks.the-variants.{Read, Broken}
 use Rattle.planes.proofs.DcReading.{onto-none, onto-onto}

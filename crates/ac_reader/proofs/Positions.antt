@@ -9,14 +9,14 @@ use native.Mathlib.Omega.{arith}
 use lib.IntN.{ℤ, pos, negsuc}
 use lib.ListN.{length, getD, take, drop, set, length-set, drop-of-length-le}
 use lib.Seq.{drop-cons, take-suc-set, append-snoc, take-all}
-use Rattle.bits.specs.Source.{Source, Out, got, stopped, stop, takeBit}
-use Rattle.bits.specs.Reader.{andThen, done}
+use Rattle.bit_rules.specs.Source.{Source, Out, got, stopped, stop, takeBit}
+use Rattle.bit_rules.specs.Reader.{andThen, done}
 use Rattle.bits.specs.Code.{sourceOf}
-use Rattle.bits.specs.declared.Stop.{Stop}
+use Rattle.bit_rules.specs.declared.Stop.{Stop}
 use Rattle.bits.specs.declared.Cursor.{Cursor}
-use Rattle.codes.specs.Table.{Table}
-use Rattle.planes.specs.Task.{Task, walk, ended, atZero, pass}
-use Rattle.planes.specs.AcRead.{taskAt, position, corrected, blockEnd, acBlock}
+use Rattle.bit_rules.specs.Table.{Table}
+use Rattle.plane_rules.specs.Task.{Task, walk, atZero, pass}
+use Rattle.plane_rules.specs.AcRead.{taskAt, position, corrected, blockEnd, acBlock}
 use Rattle.ac_tasks.specs.Code.{openOf, blockOf}
 use Rattle.ac_reader.specs.Walk.{fixing, aim, aimed, inFront, At, Carries, Closes}
 use Rattle.ac_tasks.specs.declared.Block.{Block}

@@ -6,13 +6,13 @@ use mathlib.Core.Option.{Option, none, some}
 use Prim.Native.Nat.{ℕ, _≤_, _<_}
 use lib.IntN.{ℤ, pos}
 use lib.ListN.{length, take, drop}
-use Rattle.bits.specs.Source.{Out, got, stopped}
-use Rattle.bits.specs.Reader.{andThen, done}
+use Rattle.bit_rules.specs.Source.{Out, got, stopped}
+use Rattle.bit_rules.specs.Reader.{andThen, done}
 use Rattle.bits.specs.Code.{sourceOf}
 use Rattle.bits.specs.declared.Cursor.{Cursor}
-use Rattle.codes.specs.Table.{Table}
-use Rattle.planes.specs.Task.{Task, unit}
-use Rattle.planes.specs.AcRead.{corrected, acBlock}
+use Rattle.bit_rules.specs.Table.{Table}
+use Rattle.plane_rules.specs.Task.{Task, unit}
+use Rattle.plane_rules.specs.AcRead.{corrected, acBlock}
 use Rattle.ac_tasks.specs.Code.{blockOf}
 use Rattle.ac_tasks.specs.declared.Block.{Block}
 use Rattle.ac_reader.specs.declared.Fixed.{Fixed}

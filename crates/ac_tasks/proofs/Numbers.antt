@@ -9,13 +9,13 @@ use lib.Pow.{pow-mono}
 use lib.IntN.{ℤ, pos, negsuc, negℤ, _+ℤ_, _-ℤ_, _*ℤ_, +ℤ-idr}
 use lib.Signed.{ltZ}
 use borrow.Author.Tests.{ltb-true}
-use Rattle.bits.specs.Digits.{bin}
-use Rattle.bits.specs.Source.{got, stopped, takeBit}
+use Rattle.bit_rules.specs.Digits.{bin}
+use Rattle.bit_rules.specs.Source.{got, stopped, takeBit}
 use Rattle.bits.specs.Code.{sourceOf}
-use Rattle.bits.specs.declared.Stop.{Stop}
+use Rattle.bit_rules.specs.declared.Stop.{Stop}
 use Rattle.bits.specs.declared.Cursor.{Cursor}
-use Rattle.codes.proofs.Reading.{bin-small}
-use Rattle.planes.specs.AcRead.{takeNumber, corrected}
+use Rattle.bit_rules.proofs.Digits.{bin-small}
+use Rattle.plane_rules.specs.AcRead.{takeNumber, corrected}
 use Rattle.ac_tasks.specs.Code.{numberOf, Counts}
 use Rattle.ac_tasks.specs.declared.Number.the-variants.{Is, Cut}
 

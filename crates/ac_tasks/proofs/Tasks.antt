@@ -7,11 +7,11 @@ use native.Mathlib.Omega.{arith}
 use lib.Bits.{bitAnd, and-mask}
 use lib.Dec.{leb}
 use borrow.Author.Tests.{le-leb, lt-leb}
-use Rattle.bits.specs.Source.{Source, stopped, stop}
+use Rattle.bit_rules.specs.Source.{Source, stopped, stop}
 use Rattle.bits.specs.Code.{sourceOf}
 use Rattle.bits.specs.declared.Cursor.{Cursor}
-use Rattle.planes.specs.Task.{walk, ended}
-use Rattle.planes.specs.AcRead.{meaning, blockEnd}
+use Rattle.plane_rules.specs.Task.{walk, ended}
+use Rattle.plane_rules.specs.AcRead.{meaning, blockEnd}
 use Rattle.ac_tasks.specs.Code.{taskOf, blockOf, BlockEnds}
 use Rattle.ac_tasks.specs.declared.Job.{Job}
 use Rattle.ac_tasks.specs.declared.Job.the-variants.{Ended}

@@ -4,11 +4,11 @@ use mathlib.Core.List.{List, []}
 use mathlib.Core.Option.{Option, none, some}
 use Prim.Native.Nat.{ℕ, _^_, _<_}
 use lib.IntN.{ℤ}
-use Rattle.bits.specs.Source.{Out, got, stopped}
+use Rattle.bit_rules.specs.Source.{Out, got, stopped}
 use Rattle.bits.specs.Code.{sourceOf}
 use Rattle.bits.specs.declared.Cursor.{Cursor}
-use Rattle.planes.specs.Task.{Task, walk, ended}
-use Rattle.planes.specs.AcRead.{takeNumber, blockEnd}
+use Rattle.plane_rules.specs.Task.{Task, walk, ended}
+use Rattle.plane_rules.specs.AcRead.{takeNumber, blockEnd}
 use Rattle.ac_tasks.specs.declared.Job.{Job}
 use Rattle.ac_tasks.specs.declared.Job.the-variants.{Leave, Set, Ended}
 use Rattle.ac_tasks.specs.declared.Open.{Open}

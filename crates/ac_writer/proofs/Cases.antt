@@ -8,12 +8,12 @@ use Rattle.laws.specs.Index.{every}
 use Rattle.laws.specs.First.{firstFail, orHere}
 use Rattle.answers.specs.Verdict.{Verdict, given, refused, refusal}
 use Rattle.levels.specs.Level.{inLevel, isDc, inside, firstOutside}
-use Rattle.bits.specs.Digits.{digits}
-use Rattle.bits.specs.Pack.{stuffed, padded, packed}
-use Rattle.codes.specs.Table.{Table, table, codeCount, kraft, holds, distinct, goodTable}
-use Rattle.codes.specs.Write.{placeOf, codeAt, word}
-use Rattle.planes.specs.AcRead.{cut}
-use Rattle.planes.specs.AcWrite.{kindOf, oneMore, ahead, quiet, plan, order, emit, writeBlock, writeBlocks, tokens, lacking, spelled, writeAc}
+use Rattle.bit_rules.specs.Digits.{digits}
+use Rattle.bit_rules.specs.Pack.{stuffed, padded, packed}
+use Rattle.bit_rules.specs.Table.{Table, table, codeCount, kraft, holds, distinct, goodTable}
+use Rattle.bit_rules.specs.Write.{placeOf, codeAt, word}
+use Rattle.plane_rules.specs.AcRead.{cut}
+use Rattle.plane_rules.specs.AcWrite.{kindOf, oneMore, ahead, quiet, plan, order, emit, writeBlock, writeBlocks, tokens, lacking, spelled, writeAc}
 
 -- three codes of two bits: 00, 01, 10
 abbrev pub threeCodes : List ℕ → Table

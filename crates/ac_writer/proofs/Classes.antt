@@ -8,8 +8,8 @@ use native.Mathlib.Omega.{arith}
 use lib.Dec.{eqb, ltb}
 use lib.Pow.{pow-pos}
 use borrow.Author.Tests.{lt-ltb, le-ltb, ltb-false}
-use Rattle.bits.specs.Digits.{digits}
-use Rattle.planes.specs.AcWrite.{order, class}
+use Rattle.bit_rules.specs.Digits.{digits}
+use Rattle.plane_rules.specs.AcWrite.{order, class}
 
 pub class-high : (most n : ℕ) → order most n ≤ most
 unfolding order

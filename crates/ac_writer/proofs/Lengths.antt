@@ -10,14 +10,14 @@ use lib.IntN.{ℤ}
 use lib.ListN.{length, take, drop, length-append, length-map, length-take}
 use Rattle.laws.specs.declared.Found.{Found}
 use Rattle.laws.specs.declared.Found.the-variants.{At, Nothing}
-use Rattle.bits.specs.Digits.{digits}
-use Rattle.codes.specs.Table.{Table, goodTable}
-use Rattle.codes.specs.Write.{placeOf, codeAt, codeOf, word}
-use Rattle.codes.proofs.Laws.{good}
-use Rattle.bits.proofs.Gathering.{digits-length}
-use Rattle.planes.specs.Task.{Task, walk, ended}
-use Rattle.planes.specs.AcRead.{cut}
-use Rattle.planes.specs.AcWrite.{Kind, keep, still, fresh, kindOf, code, raw, emit, class, choose, tell, mark, after, writeBlock, writeBlocks, tokens, spelled}
+use Rattle.bit_rules.specs.Digits.{digits}
+use Rattle.bit_rules.specs.Table.{Table, goodTable}
+use Rattle.bit_rules.specs.Write.{placeOf, codeAt, codeOf, word}
+use Rattle.bit_rules.proofs.Tables.{good}
+use Rattle.bit_rules.proofs.Digits.{digits-length}
+use Rattle.plane_rules.specs.Task.{Task, walk, ended}
+use Rattle.plane_rules.specs.AcRead.{cut}
+use Rattle.plane_rules.specs.AcWrite.{Kind, keep, still, fresh, kindOf, code, raw, emit, class, choose, tell, mark, after, writeBlock, writeBlocks, tokens, spelled}
 use Rattle.ac_writer.proofs.Tokens.{spelled-append, spelled-raw}
 use Rattle.ac_writer.proofs.Classes.{class-high}
 

@@ -9,9 +9,9 @@ use lib.IntN.{ℤ}
 use lib.ListN.{length, take, drop, length-take, length-drop}
 use lib.Seq.{take-length}
 use Rattle.bits.proofs.Putting.{fresh-sound}
-use Rattle.codes.specs.Table.{Table, goodTable}
-use Rattle.planes.specs.Task.{Task}
-use Rattle.planes.specs.AcWrite.{Kind, writeBlock, writeBlocks, tokens}
+use Rattle.bit_rules.specs.Table.{Table, goodTable}
+use Rattle.plane_rules.specs.Task.{Task}
+use Rattle.plane_rules.specs.AcWrite.{Kind, writeBlock, writeBlocks, tokens}
 use Rattle.ac_tasks.specs.Code.{openOf}
 use Rattle.ac_plan.specs.Plan.{kindsFrom, kindBlocks}
 use Rattle.ac_tasks.specs.declared.Open.the-variants.{Nothing}

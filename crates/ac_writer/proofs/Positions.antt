@@ -10,9 +10,9 @@ use lib.ListN.{length, getD, length-map, length-append}
 use Rattle.bits.specs.Code.{Sound, Puts}
 use Rattle.bits.specs.declared.Putter.{Putter}
 use Rattle.bits.proofs.Putting.{puts-none, puts-then}
-use Rattle.codes.specs.Table.{Table, goodTable}
-use Rattle.planes.specs.Task.{Task, walk, pass, over}
-use Rattle.planes.specs.AcWrite.{Kind, keep, still, fresh, Token, raw, kindOf, plan, emit, choose, tell, writeBlock}
+use Rattle.bit_rules.specs.Table.{Table, goodTable}
+use Rattle.plane_rules.specs.Task.{Task, walk, pass, over}
+use Rattle.plane_rules.specs.AcWrite.{Kind, keep, still, fresh, Token, raw, kindOf, plan, emit, choose, tell, writeBlock}
 use Rattle.ac_tasks.specs.Code.{taskOf, openOf}
 use Rattle.ac_tasks.specs.declared.Job.{Job}
 use Rattle.ac_tasks.specs.declared.Job.the-variants.{Leave, Set, Ended}

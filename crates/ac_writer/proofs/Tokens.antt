@@ -9,13 +9,13 @@ use borrow.Author.Tests.{eq-eqb, ne-eqb}
 use Rattle.laws.specs.declared.Found.{Found}
 use Rattle.laws.specs.declared.Found.the-variants.{At, Nothing}
 use Rattle.bits.specs.Code.{Sound, Puts}
-use Rattle.bits.specs.Digits.{digits}
+use Rattle.bit_rules.specs.Digits.{digits}
 use Rattle.bits.proofs.Putting.{puts-none, puts-then, Going, going-start, going-turn, going-end}
-use Rattle.codes.specs.Table.{Table}
-use Rattle.codes.specs.Write.{placeOf, codeOf, word}
+use Rattle.bit_rules.specs.Table.{Table}
+use Rattle.bit_rules.specs.Write.{placeOf, codeOf, word}
 use Rattle.codes.specs.Code.{absent, Entered}
-use Rattle.planes.specs.Task.{ended}
-use Rattle.planes.specs.AcWrite.{Token, code, raw, class, emit, orElse, lacking, spelled}
+use Rattle.plane_rules.specs.Task.{ended}
+use Rattle.plane_rules.specs.AcWrite.{Token, code, raw, class, emit, orElse, lacking, spelled}
 use Rattle.ac_writer.specs.Telling.{firstOf, Told}
 use Rattle.ac_writer.specs.declared.Pen.{Pen}
 use Rattle.ac_writer.proofs.Classes.{run-bits}

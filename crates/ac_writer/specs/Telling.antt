@@ -10,10 +10,10 @@ use Rattle.laws.specs.declared.Found.{Found}
 use Rattle.laws.specs.declared.Found.the-variants.{At, Nothing}
 use Rattle.bits.specs.Code.{Sound, Puts}
 use Rattle.bits.proofs.Putting.{fresh}
-use Rattle.codes.specs.Table.{Table, goodTable}
+use Rattle.bit_rules.specs.Table.{Table, goodTable}
 use Rattle.codes.specs.Code.{Entries}
-use Rattle.planes.specs.Task.{Task}
-use Rattle.planes.specs.AcWrite.{Kind, Token, raw, choose, tell, writeBlock, lacking, spelled}
+use Rattle.plane_rules.specs.Task.{Task}
+use Rattle.plane_rules.specs.AcWrite.{Kind, Token, raw, choose, tell, writeBlock, lacking, spelled}
 use Rattle.ac_plan.specs.Plan.{kindsFrom}
 use Rattle.bits.specs.declared.Putter.{Putter}
 use Rattle.ac_tasks.specs.Code.{taskOf, openOf}

@@ -1,7 +1,7 @@
 -- The laws of putting several bits at once: what is in hand and what follows make one number, and its whole bytes go first. Assumes nothing.
 use mathlib.Core.Path.{_≡_, refl, sym, ap, ap₂, _∙_}
 use mathlib.Core.List.{List, [], _∷_, _++_, append-assoc}
-use mathlib.Core.Bool.{Bool, true, false}
+use mathlib.Core.Bool.{Bool}
 use Prim.Native.Nat.{ℕ, zero, suc, _+_, _-_, _*_, _/_, _%_, _^_, _≤_, _<_}
 use native.Mathlib.Nat.{pow-suc, mod-lt, mod-eq-of-lt, add-mul, mul-add-div-right}
 use native.Mathlib.Omega.{arith}
@@ -10,12 +10,12 @@ use lib.Dec.{eqb}
 use lib.ListN.{length}
 use lib.Pow.{pow-pos, high, split, shr-shr, mod-pow-add, shl-exact}
 use lib.Seq.{sets}
-use borrow.Author.Tests.{eqb-true, eqb-false}
-use Rattle.bits.specs.Digits.{bin, odd, digits}
-use Rattle.bits.specs.Pack.{stuffed, packed}
+use Rattle.bit_rules.specs.Digits.{bin, odd, digits}
+use Rattle.bit_rules.specs.Pack.{stuffed, packed}
 use Rattle.bits.specs.Code.{Sound, finishing, Puts}
 use Rattle.bits.specs.declared.Putter.{Putter}
 use Rattle.bits.proofs.Putting.{laid, byte-laid, stuffed-short}
+use Rattle.bit_rules.proofs.Digits.{bin-odd, digits-length}
 
 -- ---- the code's shifts and masks
 
@@ -29,18 +29,6 @@ pub both : (held size v : ℕ) → held < 128 → size ≤ 16 → bitOr (held * 
 both held size v h l = rw (shl-exact {a = held} 7 size 32 h (omega arith)) (or-shifted held size (v % 2 ^ size) (mod-lt v (pow-pos size)))
 
 -- ---- digits
-
-pub bin-odd : (n : ℕ) → bin (odd n) ≡ n % 2
-bin-odd n = go (eqb (n % 2) 1) refl
-  where
-    go : (b : Bool) → odd n ≡ b → bin b ≡ n % 2
-    go true e = sym (eqb-true (n % 2) 1 e)
-    go false e = omega (arith, eqb-false (n % 2) 1 e)
-
-pub digits-length : (n v : ℕ) → length (digits n v) ≡ n
-unfolding digits
-digits-length zero v = refl
-digits-length (suc n) v = ap suc (digits-length n v)
 
 -- the high digits, then the low ones
 digits-split : (j k v : ℕ) → digits (j + k) v ≡ digits j (v / 2 ^ k) ++ digits k v

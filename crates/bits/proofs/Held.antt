@@ -23,7 +23,7 @@ use denote.Struct.Declared.{Declared}
 use denote.Struct.Laws as LL
 use denote.Struct.Rest.{all-own, ownAt, rest, own-open, own-out, own-shut}
 use denote.Struct.Values.{Values}
-use Rattle.bits.specs.Source.{start, got, takeBit}
+use Rattle.bit_rules.specs.Source.{start, got, takeBit}
 use Rattle.bits.specs.Code.{highs, sourceOf, takenOf}
 use Rattle.bits.specs.Held.{unread, cursorOf, readerAt}
 use Rattle.bits.specs.declared.Taken.the-variants.{Bit}

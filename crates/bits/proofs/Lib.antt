@@ -2,5 +2,4 @@ pub mod Cases
 pub mod Taking
 pub mod Putting
 pub mod Gathering
-pub mod Trip
 pub mod Held

@@ -12,8 +12,8 @@ use lib.ListN.{length, set, drop, length-append}
 use lib.Pow.{pow-mono}
 use lib.Seq.{sets, sets-eq}
 use borrow.Author.Tests.{eq-eqb, ne-eqb}
-use Rattle.bits.specs.Digits.{bin}
-use Rattle.bits.specs.Pack.{stuffed, padded, packed, bytesOf}
+use Rattle.bit_rules.specs.Digits.{bin}
+use Rattle.bit_rules.specs.Pack.{stuffed, padded, packed, bytesOf}
 use Rattle.bits.specs.Code.{Sound, Written, finishing, Puts, Ends}
 use Rattle.bits.specs.declared.Putter.{Putter}
 use Rattle.bits.proofs.Taking.{moved-up}

@@ -12,8 +12,8 @@ use lib.Seq.{drop-cons}
 use borrow.Author.Tests.{eq-eqb, ne-eqb}
 use Rattle.laws.specs.Index.{every}
 use Rattle.laws.proofs.Lists.{each}
-use Rattle.bits.specs.Digits.{digits}
-use Rattle.bits.specs.Source.{stopped, stop, takeBit, takeFrom, nextByte, afterFF, opened, none, onlyPadding}
+use Rattle.bit_rules.specs.Digits.{digits}
+use Rattle.bit_rules.specs.Source.{stopped, stop, takeBit, takeFrom, nextByte, afterFF, opened, none, onlyPadding}
 use Rattle.bits.specs.Code.{highs, topOf, takenOf, sourceOf}
 use Rattle.bits.specs.declared.Cursor.{Cursor}
 

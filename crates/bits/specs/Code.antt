@@ -6,8 +6,8 @@ use Prim.Native.Nat.{ℕ, zero, suc, _+_, _-_, _*_, _/_, _%_, _^_, _≤_, _<_}
 use lib.Dec.{eqb}
 use lib.ListN.{length, drop}
 use lib.Seq.{sets}
-use Rattle.bits.specs.Source.{Source, source, Out, got, stopped, stop}
-use Rattle.bits.specs.Pack.{packed}
+use Rattle.bit_rules.specs.Source.{Source, source, Out, got, stopped, stop}
+use Rattle.bit_rules.specs.Pack.{packed}
 use Rattle.bits.specs.declared.Cursor.{Cursor}
 use Rattle.bits.specs.declared.Putter.{Putter}
 use Rattle.bits.specs.declared.Taken.{Taken}

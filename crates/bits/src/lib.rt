@@ -7,9 +7,9 @@ ghost use Prim.Native.Nat.{_+_, _-_, _*_, _%_, _^_, _≤_, _<_};
 ghost use lib.ListN.{set, length};
 ghost use lib.Seq.{sets};
 ghost use Rattle.laws.specs.Index.{every};
-ghost use Rattle.bits.specs.Digits.{digits};
-ghost use Rattle.bits.specs.Source.{takeBit, onlyPadding};
-ghost use Rattle.bits.specs.Pack.{stuffed, padded};
+ghost use Rattle.bit_rules.specs.Digits.{digits};
+ghost use Rattle.bit_rules.specs.Source.{takeBit, onlyPadding};
+ghost use Rattle.bit_rules.specs.Pack.{stuffed, padded};
 ghost use Rattle.bits.specs.Code.{sourceOf, takenOf, topOf, highs, Sound, Puts, Ends};
 
 // Bytes read so far, and the unread bits of the last one: `left` of them, the highest of `byte`.
@@ -17,11 +17,6 @@ pub struct Cursor {
     pub at: usize,
     pub left: u8,
     pub byte: u8,
-}
-
-// Why reading stops: a number of 01's table.
-pub struct Stop {
-    pub number: u32,
 }
 
 pub enum Taken {

@@ -5,7 +5,7 @@ use crate::Taken;
 use crate::only_padding;
 use crate::take_bit;
 ghost use mathlib.Core.Path.{_≡_};
-ghost use Rattle.bits.specs.Source.{takeBit, onlyPadding};
+ghost use Rattle.bit_rules.specs.Source.{takeBit, onlyPadding};
 ghost use Rattle.bits.specs.Code.{sourceOf, takenOf};
 ghost use Rattle.bits.specs.Held.{unread, readerAt, cursorOf};
 

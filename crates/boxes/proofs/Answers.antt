@@ -12,19 +12,21 @@ use Rattle.answers.specs.Verdict.{Verdict, given, refused, refusal, Tried}
 use Rattle.answers.proofs.Laws.{tried-given}
 use Rattle.answers.specs.declared.Refusal.{Refusal}
 use Rattle.answers.specs.declared.Outcome.the-variants.{Given, Refused}
-use Rattle.packets.specs.declared.Head.{Head}
-use Rattle.packets.specs.Walk.{walk, ending}
-use Rattle.packets.specs.Packets.{Packet, Met}
-use Rattle.packets.proofs.Walking.{mine-all}
-use Rattle.numbers.specs.Numbers.{numbers, numbersFrom, firstTwice, missingFrom, firstMissing}
-use Rattle.numbers.proofs.Smallest.{pigeonhole}
+use Rattle.box_rules.specs.declared.Head.{Head}
+use Rattle.box_rules.specs.Walk.{walk, ending}
+use Rattle.box_rules.specs.Packets.{Packet}
+use Rattle.packets.specs.Code.{Met}
+use Rattle.box_rules.proofs.Walking.{mine-all}
+use Rattle.box_rules.specs.Numbers.{numbers, numbersFrom, firstTwice, missingFrom, firstMissing}
+use Rattle.box_rules.proofs.Smallest.{pigeonhole}
 use Rattle.boxes.specs.declared.Fault.the-variants.{Fine, Twice, Missing}
-use Rattle.boxes.specs.Box.{agree, contents, total, joined, assembled, assemble, boxBytes}
-use Rattle.boxes.specs.Order.{payloads, inOrder}
-use Rattle.boxes.specs.Pass.{mineOf, faultBy, faultOf, Numbered, Whole, ReadyIs, putAt}
+use Rattle.box_rules.specs.Box.{agree, contents, total, joined, assembled, assemble, boxBytes}
+use Rattle.box_rules.specs.Order.{payloads}
+use Rattle.boxes.specs.Code.{inOrder, mineOf, faultBy, faultOf, Numbered, Whole, ReadyIs, putAt}
 use Rattle.boxes.specs.declared.Ready.{Ready}
 use Rattle.boxes.specs.declared.Ready.the-variants.{Not, Yes}
-use Rattle.boxes.proofs.Order.{numbers-length, fine-total, order-twice, order-missing, order-joined}
+use Rattle.box_rules.proofs.Order.{numbers-length, fine-total}
+use Rattle.boxes.proofs.InOrder.{order-twice, order-missing, order-joined}
 use Rattle.boxes.proofs.Puts.{put-front}
 
 -- ---- what is wrong with the numbers

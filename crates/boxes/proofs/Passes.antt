@@ -8,14 +8,14 @@ use native.Mathlib.Numerals.{add-one}
 use lib.ListN.{length, take, drop}
 use lib.Dec.{eqb, leb}
 use Rattle.laws.proofs.Choices.{cond-cond, cond-id}
-use Rattle.packets.specs.declared.Head.{Head}
-use Rattle.packets.specs.Packets.{Packet, packet, mineFrom, Met}
-use Rattle.packets.specs.Walk.{stepsFrom, walkFrom, walk, ending}
-use Rattle.packets.proofs.Walking.{part-length, walk-on}
-use Rattle.numbers.specs.Numbers.{numbers}
-use Rattle.boxes.specs.Box.{alike, agree, total}
-use Rattle.boxes.specs.Order.{inOrder, rises}
-use Rattle.boxes.specs.Pass.{mineOf, Scanned, foundMore}
+use Rattle.box_rules.specs.declared.Head.{Head}
+use Rattle.box_rules.specs.Packets.{Packet, packet, mineFrom}
+use Rattle.packets.specs.Code.{Met}
+use Rattle.box_rules.specs.Walk.{stepsFrom, walkFrom, walk, ending}
+use Rattle.box_rules.proofs.Walking.{part-length, walk-on}
+use Rattle.box_rules.specs.Numbers.{numbers}
+use Rattle.box_rules.specs.Box.{alike, agree, total}
+use Rattle.boxes.specs.Code.{inOrder, rises, mineOf, Scanned, foundMore}
 use Rattle.boxes.specs.declared.Scan.{Scan}
 
 -- counts, totals and tests of what was met and what is left

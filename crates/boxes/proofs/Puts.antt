@@ -7,11 +7,12 @@ use native.Mathlib.Nat.{zero-add}
 use native.Mathlib.Numerals.{add-one}
 use lib.ListN.{length, take, drop, set, getD, length-drop, length-append}
 use lib.Seq.{length-take-le, take-at, drop-append-add, drop-drop, getD-drop, paste, paste-zero, paste-suc}
-use Rattle.packets.specs.declared.Head.{Head}
-use Rattle.packets.specs.Packets.{Packet, mineFrom, Met}
-use Rattle.boxes.specs.Order.{payloads}
-use Rattle.boxes.specs.Pass.{putAt}
-use Rattle.packets.proofs.Walking.{part-length}
+use Rattle.box_rules.specs.declared.Head.{Head}
+use Rattle.box_rules.specs.Packets.{Packet, mineFrom}
+use Rattle.packets.specs.Code.{Met}
+use Rattle.box_rules.specs.Order.{payloads}
+use Rattle.boxes.specs.Code.{putAt}
+use Rattle.box_rules.proofs.Walking.{part-length}
 
 pub put-nil : (d : List ℕ) (at : ℕ) → putAt d at [] ≡ d
 unfolding putAt

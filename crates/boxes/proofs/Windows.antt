@@ -9,15 +9,17 @@ use lib.ListN.{length, getD, take, drop}
 use lib.Dec.{eqb}
 use borrow.Author.Tests.{eq-eqb}
 use Rattle.laws.proofs.Choices.{either}
-use Rattle.packets.specs.declared.Head.{Head}
-use Rattle.packets.specs.Packets.{Packet, packet, mineFrom, Met}
-use Rattle.numbers.specs.Numbers.{numbers, numbersFrom, count}
-use Rattle.numbers.proofs.Counts.{numbers-met, numbers-gone, numbers-append, count-append, count-here}
-use Rattle.windows.specs.Places.{Stands, PlaceOf, Located}
-use Rattle.boxes.specs.Box.{numbered, joinedFrom, joined}
-use Rattle.boxes.specs.Pass.{mineOf, putAt, Windowed}
-use Rattle.boxes.proofs.Order.{none-numbered, each-once}
-use Rattle.packets.proofs.Walking.{part-length}
+use Rattle.box_rules.specs.declared.Head.{Head}
+use Rattle.box_rules.specs.Packets.{Packet, packet, mineFrom}
+use Rattle.packets.specs.Code.{Met}
+use Rattle.box_rules.specs.Numbers.{numbers, numbersFrom, count}
+use Rattle.numbers.proofs.Meeting.{numbers-met, numbers-gone}
+use Rattle.box_rules.proofs.Counts.{numbers-append, count-append, count-here}
+use Rattle.windows.specs.Code.{Stands, PlaceOf, Located}
+use Rattle.box_rules.specs.Box.{numbered, joinedFrom, joined}
+use Rattle.boxes.specs.Code.{mineOf, putAt, Windowed}
+use Rattle.box_rules.proofs.Order.{none-numbered, each-once}
+use Rattle.box_rules.proofs.Walking.{part-length}
 use Rattle.boxes.proofs.Puts.{Writing, write-start, write-room, write-more}
 use Rattle.boxes.proofs.Answers.{told-fine}
 

@@ -1,3 +1,1 @@
-pub mod Box
-pub mod Order
-pub mod Pass
+pub mod Code

@@ -2,20 +2,20 @@
 use answers::Answer;
 use answers::Outcome;
 use answers::Refusal;
+use box_rules::Head;
 use laws::Found;
-use packets::Head;
 use packets::Next;
 ghost use mathlib.Core.Path.{_≡_};
 ghost use mathlib.Core.Bool.{false, cond};
 ghost use Prim.Native.Nat.{_+_, _≤_, _<_};
 ghost use lib.ListN.{length, take, drop};
 ghost use Rattle.answers.specs.Verdict.{Meets, Tried, refusal};
-ghost use Rattle.packets.specs.Walk.{walk, walkFrom, ending};
-ghost use Rattle.numbers.specs.Numbers.{numbers};
-ghost use Rattle.boxes.specs.Box.{assembled, joinedFrom, joined, boxBytes};
-ghost use Rattle.boxes.specs.Box.{alike as Box·alike, contents as Box·contents};
-ghost use Rattle.boxes.specs.Order.{inOrder, rises, payloads};
-ghost use Rattle.boxes.specs.Pass.{mineOf, Scanned, foundMore, faultOf, putAt, Numbered, Windowed, ReadyIs};
+ghost use Rattle.box_rules.specs.Walk.{walk, walkFrom, ending};
+ghost use Rattle.box_rules.specs.Numbers.{numbers};
+ghost use Rattle.box_rules.specs.Box.{assembled, joinedFrom, joined, boxBytes};
+ghost use Rattle.box_rules.specs.Box.{alike as Box·alike, contents as Box·contents};
+ghost use Rattle.boxes.specs.Code.{inOrder, rises, mineOf, Scanned, foundMore, faultOf, putAt, Numbered, Windowed, ReadyIs};
+ghost use Rattle.box_rules.specs.Order.{payloads};
 
 // What one pass over the packets of a type and instance finds. `above` is the number behind the last one, `end` where it stopped.
 pub struct Scan {

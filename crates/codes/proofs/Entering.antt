@@ -1,63 +1,26 @@
 -- The laws of the writer's table of codes: the loop over the places makes each value's entry. Assumes nothing.
 use mathlib.Core.Path.{_≡_, refl, sym, ap, subst, _∙_}
-use mathlib.Core.List.{List, [], _∷_}
-use mathlib.Core.Bool.{Bool, true, false, cond, not}
-use Prim.Native.Nat.{ℕ, zero, suc, _+_, _/_, _%_, _≤_, _<_}
+use mathlib.Core.List.{List}
+use mathlib.Core.Bool.{Bool, true, false, not}
+use Prim.Native.Nat.{ℕ, _+_, _/_, _%_, _≤_, _<_}
 use native.Mathlib.Numerals.{add-one}
 use native.Mathlib.Omega.{arith}
 use lib.Dec.{eqb}
 use lib.ListN.{length, getD, set, length-set, replicate, getD-replicate}
 use lib.Seq.{getD-set-same, getD-set-other}
-use borrow.Author.Tests.{eq-eqb, ne-eqb, eqb-true, eqb-false}
+use borrow.Author.Tests.{ne-eqb, eqb-true, eqb-false}
 use Rattle.laws.specs.First.{firstFail, orHere}
 use Rattle.laws.specs.declared.Found.{Found}
 use Rattle.laws.specs.declared.Found.the-variants.{At, Nothing}
-use Rattle.laws.proofs.First.{first-found, all-pass}
-use Rattle.bits.specs.Digits.{digits}
-use Rattle.codes.specs.Table.{Table, holds, distinct, goodTable}
-use Rattle.codes.specs.Write.{placeOf}
+use Rattle.bit_rules.specs.Digits.{digits}
+use Rattle.bit_rules.specs.Table.{Table, distinct, goodTable}
+use Rattle.bit_rules.specs.Write.{placeOf}
 use Rattle.codes.specs.Code.{Assigned, entryOf, Entered, Entries}
 use Rattle.codes.specs.declared.Code.{Code}
-use Rattle.codes.proofs.Laws.{good}
+use Rattle.bit_rules.proofs.Tables.{good}
+use Rattle.bit_rules.proofs.Places.{other, first-there}
 
 -- ---- distinct values stand at one place each
-
-holds-at : (v : ℕ) (vs : List ℕ) (j : ℕ) → j < length vs → getD vs j 0 ≡ v → holds v vs ≡ true
-unfolding holds
-holds-at v [] j h e = absurd (omega arith)
-holds-at v (x ∷ vs) zero h e = rw (eq-eqb x v e)
-holds-at v (x ∷ vs) (suc j) h e = go (eqb x v) (holds-at v vs j (omega arith) e)
-  where
-    go : (b : Bool) → holds v vs ≡ true → cond b true (holds v vs) ≡ true
-    go true k = refl
-    go false k = k
-
-pub apart : (vs : List ℕ) (i j : ℕ) → distinct vs ≡ true → i < j → j < length vs → getD vs i 0 ≡ getD vs j 0 → ⊥
-unfolding distinct
-apart [] i j d l h e = omega arith
-apart (v ∷ vs) i zero d l h e = omega arith
-apart (v ∷ vs) zero (suc j) d l h e =
-    let z : _≡_ {A = Bool} false true = rw (holds-at v vs j (omega arith) (sym e)) at d in
-    let y : _≡_ {A = ℕ} 0 1 = cc in omega arith
-apart (v ∷ vs) (suc i) (suc j) d l h e = go (holds v vs) d (λ k. apart vs i j k (omega arith) (omega arith) e)
-  where
-    go : (b : Bool) → cond b false (distinct vs) ≡ true → (distinct vs ≡ true → ⊥) → ⊥
-    go true k f = let y : _≡_ {A = ℕ} 0 1 = cc in omega arith
-    go false k f = f k
-
-abbrev other : List ℕ → ℕ → ℕ → Bool
-other values v i = not (eqb (getD values i 0) v)
-
-none-before : (vs : List ℕ) (k v : ℕ) → distinct vs ≡ true → k < length vs → v ≡ getD vs k 0 → firstFail k (other vs v) ≡ Nothing
-none-before vs k v d h e = all-pass k (other vs v) (λ i l. ap not (ne-eqb (getD vs i 0) v (λ q. apart vs i k d l h (q ∙ e))))
-
-first-there : (vs : List ℕ) (k v n : ℕ) → distinct vs ≡ true → k < length vs → v ≡ getD vs k 0 → k < n → firstFail n (other vs v) ≡ At k
-first-there vs k v n d h e l = first-found (other vs v) n k l (none-before vs k v d h e) (ap not (eq-eqb (getD vs k 0) v (sym e)))
-
--- the place of the value at a place
-pub place-at : (vs : List ℕ) (k v : ℕ) → distinct vs ≡ true → k < length vs → v ≡ getD vs k 0 → placeOf v vs ≡ At k
-unfolding placeOf
-place-at vs k v d h e = first-there vs k v (length vs) d h e h
 
 -- ---- the loop: the entries of the places so far
 

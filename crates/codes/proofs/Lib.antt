@@ -1,6 +1,3 @@
-pub mod Cases
-pub mod Laws
 pub mod Reading
-pub mod Trip
 pub mod Entering
-pub mod Words
+pub mod Assigning

@@ -1,7 +1,7 @@
 -- One turn of the loop that reads a code: what is left to read gives what the whole gives. Assumes nothing.
 use mathlib.Core.Path.{_≡_, refl}
 use mathlib.Core.List.{_∷_}
-use mathlib.Core.Bool.{Bool, true, false}
+use mathlib.Core.Bool.{Bool, true}
 use Prim.Native.Nat.{ℕ, _+_, _-_, _*_, _^_, _≤_, _<_}
 use native.Mathlib.Nat.{pow-suc}
 use native.Mathlib.Numerals.{add-one}
@@ -10,16 +10,13 @@ use lib.Pow.{pow-mono}
 use lib.ListN.{length, getD, drop, drop-of-length-le}
 use lib.Seq.{drop-cons, drop-drop, getD-drop}
 use borrow.Author.Tests.{lt-ltb, le-ltb}
-use Rattle.bits.specs.Digits.{bin}
-use Rattle.bits.specs.Source.{Source, got, stopped, stop, takeBit}
-use Rattle.bits.specs.declared.Stop.{Stop}
-use Rattle.codes.specs.Table.{Table, codeCount, goodTable}
-use Rattle.codes.specs.Read.{codeFrom, takeCode}
-use Rattle.codes.proofs.Laws.{good, total-on}
-
-pub bin-small : (b : Bool) → bin b < 2
-bin-small true = omega arith
-bin-small false = omega arith
+use Rattle.bit_rules.specs.Digits.{bin}
+use Rattle.bit_rules.specs.Source.{Source, got, stopped, stop, takeBit}
+use Rattle.bit_rules.specs.declared.Stop.{Stop}
+use Rattle.bit_rules.specs.Table.{Table, codeCount, goodTable}
+use Rattle.bit_rules.specs.Read.{codeFrom, takeCode}
+use Rattle.bit_rules.proofs.Tables.{good, total-on}
+use Rattle.bit_rules.proofs.Digits.{bin-small}
 
 -- behind l lengths: `place` values belong to them
 pub record Here (T : Table) (s₀ s : Source) (over place l : ℕ) : Type 0 where

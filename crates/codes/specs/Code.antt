@@ -2,15 +2,19 @@
 use mathlib.Core.Path.{_≡_}
 use mathlib.Core.Bool.{Bool, true, false}
 use mathlib.Core.List.{List}
-use Prim.Native.Nat.{ℕ, _+_, _*_, _/_, _%_, _^_, _≤_, _<_}
+use Prim.Native.Nat.{ℕ, _+_, _*_, _/_, _%_, _^_, _≤_, _<_, _-_}
 use lib.Dec.{eqb}
 use lib.ListN.{getD}
 use Rattle.laws.specs.declared.Found.{Found}
 use Rattle.laws.specs.declared.Found.the-variants.{At, Nothing}
-use Rattle.bits.specs.Digits.{digits}
-use Rattle.codes.specs.Table.{Table}
-use Rattle.codes.specs.Write.{placeOf, codeAt, codeOf}
+use Rattle.bit_rules.specs.Digits.{digits}
+use Rattle.bit_rules.specs.Table.{Table}
+use Rattle.bit_rules.specs.Write.{placeOf, codeAt, codeOf}
 use Rattle.codes.specs.declared.Code.{Code}
+use Rattle.bit_rules.specs.Source.{Out, got, stopped}
+use Rattle.bits.specs.Code.{sourceOf}
+use Rattle.codes.specs.declared.Coded.{Coded}
+use Rattle.codes.specs.declared.Coded.the-variants.{Value, Stopped}
 
 -- it is the code that Annex C assigns to the value at this place
 pub record Assigned (counts : List ℕ) (place : ℕ) (code : Code) : Type 0 where
@@ -36,3 +40,8 @@ pub record Entered (counts : List ℕ) (found : Found) (entry : ℕ) : Type 0 wh
 -- the entry of each value of a byte
 pub record Entries (T : Table) (entries : List ℕ) : Type 0 where
   pub each : (v : ℕ) → v < 256 → Entered (T .counts) (placeOf v (T .values)) (getD entries v 0)
+
+-- what the code's answer stands for
+unfoldable pub codedOf : List ℕ → Coded → Out ℕ
+codedOf bytes (Value v c) = got v (sourceOf bytes c)
+codedOf bytes (Stopped x) = stopped x

@@ -1,5 +1,1 @@
-pub mod Table
-pub mod Read
-pub mod Write
 pub mod Code
-pub mod Words

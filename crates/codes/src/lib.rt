@@ -4,11 +4,11 @@ ghost use mathlib.Core.Bool.{true};
 ghost use Prim.Native.Nat.{_<_};
 ghost use lib.ListN.{length, drop};
 ghost use Rattle.bits.specs.Code.{sourceOf};
-ghost use Rattle.codes.specs.Table.{table, codeCount, kraft, holds, distinct, goodTable};
-ghost use Rattle.codes.specs.Read.{takeCode, codedOf};
-ghost use Rattle.codes.specs.Code.{Assigned, Entries};
+ghost use Rattle.bit_rules.specs.Table.{table, codeCount, kraft, holds, distinct, goodTable};
+ghost use Rattle.bit_rules.specs.Read.{takeCode};
+ghost use Rattle.codes.specs.Code.{codedOf, Assigned, Entries};
+use bit_rules::Stop;
 use bits::Cursor;
-use bits::Stop;
 use bits::Taken;
 
 pub enum Coded {

@@ -6,15 +6,16 @@ use Prim.Native.Nat.{ℕ, _+_, _*_, _^_, _≤_, _<_}
 use native.Mathlib.Nat.{mul-le-mul, mul-le-mul-right}
 use native.Mathlib.Omega.{arith}
 use lib.IntN.{pos, natAbs}
-use lib.ListN.{length, getD, set}
+use lib.ListN.{length, set}
 use lib.Seq.{getD-set-same, getD-set-other}
 use Rattle.laws.proofs.Integers.{split}
-use Rattle.rounding.specs.Near.{nearest, top}
+use Rattle.merge_rules.specs.Near.{nearest, top}
 use Rattle.rounding.proofs.Laws.{top-above, top-below, nearest-within}
-use Rattle.curves.specs.declared.Curve.{Curve}
-use Rattle.curves.specs.declared.Curve.the-variants.{Table, Srgb}
-use Rattle.curves.specs.Curves.{straight, entries, There, Tones}
-use Rattle.curves.proofs.SrgbRule.{srgb-long}
+use Rattle.merge_rules.specs.declared.Curve.{Curve}
+use Rattle.merge_rules.specs.declared.Curve.the-variants.{Table, Srgb}
+use Rattle.merge_rules.specs.Curves.{straight, entries}
+use Rattle.curves.specs.Code.{There, Tones}
+use Rattle.merge_rules.proofs.SrgbRule.{srgb-long}
 
 pub product-below : (x t : ℕ) → x < 65536 → t ≤ 65535 → x * t ≤ 4294836225
 product-below x t h g = let k : x ≤ 65535 = omega arith in mul-le-mul k g

@@ -1,2 +1,1 @@
-pub mod Srgb
-pub mod Curves
+pub mod Code

@@ -1,18 +1,13 @@
 // The base curve of the merge's step 2: straight, by a lent table, or by the inverse sRGB table.
+use merge_rules::Curve;
 ghost use mathlib.Core.Path.{_≡_};
 ghost use Prim.Native.Nat.{_+_, _^_, _<_, _≤_};
 ghost use lib.IntN.{pos, natAbs};
 ghost use lib.ListN.{length, getD};
-ghost use Rattle.rounding.specs.Near.{top};
-ghost use Rattle.curves.specs.Srgb.{srgb};
-ghost use Rattle.curves.specs.Curves.{straight, curved, Tones, There};
-
-// The base curve of step 2.
-pub enum Curve {
-    Straight,
-    Table,
-    Srgb,
-}
+ghost use Rattle.merge_rules.specs.Near.{top};
+ghost use Rattle.merge_rules.specs.Srgb.{srgb};
+ghost use Rattle.merge_rules.specs.Curves.{straight, curved};
+ghost use Rattle.curves.specs.Code.{Tones, There};
 
 // The straight curve.
 fn straight(rb: u32, rh: u32, x: u16) -> i64

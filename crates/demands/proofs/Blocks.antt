@@ -9,13 +9,13 @@ use lib.IntN.{ℤ}
 use lib.ListN.{length}
 use Rattle.answers.specs.Verdict.{refusal}
 use Rattle.answers.specs.declared.Refusal.{Refusal}
-use Rattle.bits.specs.Source.{Source, Out, got, stopped, takeBit, onlyPadding}
-use Rattle.bits.specs.Reader.{andThen, done}
-use Rattle.codes.specs.Table.{Table}
-use Rattle.planes.specs.Plane.{Plane, read, broken, onto, inBlock}
-use Rattle.planes.specs.Dc.{newDc, dcBlocks}
-use Rattle.planes.specs.Task.{Task}
-use Rattle.planes.specs.AcRead.{acBlock, acBlocks}
+use Rattle.bit_rules.specs.Source.{Source, Out, got, stopped, takeBit, onlyPadding}
+use Rattle.bit_rules.specs.Reader.{andThen, done}
+use Rattle.bit_rules.specs.Table.{Table}
+use Rattle.plane_rules.specs.Plane.{Plane, read, broken, onto, inBlock}
+use Rattle.plane_rules.specs.Dc.{newDc, dcBlocks}
+use Rattle.plane_rules.specs.Task.{Task}
+use Rattle.plane_rules.specs.AcRead.{acBlock, acBlocks}
 use Rattle.demands.specs.Blocks.{Behind, begun, further, StopsAt, LeftOver, oneDc, oneAc}
 
 -- how the blocks of a plane ended: with these data left, or with a refusal

@@ -3,30 +3,30 @@ use mathlib.Core.Path.{refl}
 use Rattle.laws.specs.Index.{sumTo, tab, joinTo, every}
 use Rattle.laws.specs.First.{firstFail, orHere}
 use Rattle.levels.specs.Level.{inLevel, isDc, inside, firstOutside}
-use Rattle.bits.specs.Digits.{digits}
-use Rattle.bits.specs.Source.{opened, afterFF, nextByte, takeFrom, takeBit, onlyPadding}
-use Rattle.codes.specs.Table.{codeCount, kraft, holds, distinct, goodTable}
-use Rattle.codes.specs.Read.{codeFrom, takeCode}
-use Rattle.planes.specs.Plane.{onto, closed}
-use Rattle.planes.specs.Dc.{newDc, dcBlocks, readDc}
-use Rattle.planes.specs.AcRead.{takeNumber, endRun, meaning, taskAt, position, blockEnd, acBlock, cut, acBlocks, readAc}
-use Rattle.packets.specs.Walk.{be16, be32, headAt, ones, barred, tagged, packetAt, wholeAt, sizedAt, markedAt, stepAt, stepsIn, stepsFrom, begins, walk, ending}
-use Rattle.packets.specs.Packets.{packetsIn, packets, isMine, mine}
-use Rattle.numbers.specs.Numbers.{numbers, count, least, firstTwice, missingFrom, firstMissing}
-use Rattle.boxes.specs.Box as boxes
-use Rattle.boxes.specs.Box.{alike, agree, contents, numbered, joinedFrom, assembled, assemble, boxBytes}
-use Rattle.kernel.specs.Cosines.{nineCosines, halfTurn, fullTurn, kernel}
-use Rattle.kernel.specs.Samples.{product, rowSum, doubleSum, rounded, sample, blockSamples}
-use Rattle.transform.specs.Zigzag.{firstRow, lastRow, placesBefore, zigzag, zigzagAt}
-use Rattle.transform.specs.Picture as blocks
-use Rattle.transform.specs.Picture.{dequantised, centre}
-use Rattle.transform.specs.Call.{isQuantiser, firstBadQuantiser, inverseTransform}
-use Rattle.rounding.specs.Near.{nearest, clip, row}
-use Rattle.curves.specs.Curves.{straight, curved, entries}
-use Rattle.pixel.specs.Pixels.{each, both, component}
-use Rattle.pixel.specs.Steps.{tinted, tints, transform, recolour, firstCentre, stepOne, stepTwo, matrixed, stepThree, scaled, stepFour, added, alone, withResidual, stepFive, basis, merged}
-use Rattle.settings.specs.Tests.{inRanges, plain, srgbAllowed, residualCount, lengthsRight}
-use Rattle.merge.specs.Picture.{pixelAt, mergedAt, planes, mergedPicture, merge}
+use Rattle.bit_rules.specs.Digits.{digits}
+use Rattle.bit_rules.specs.Source.{opened, afterFF, nextByte, takeFrom, takeBit, onlyPadding}
+use Rattle.bit_rules.specs.Table.{codeCount, kraft, holds, distinct, goodTable}
+use Rattle.bit_rules.specs.Read.{codeFrom, takeCode}
+use Rattle.plane_rules.specs.Plane.{onto, closed}
+use Rattle.plane_rules.specs.Dc.{newDc, dcBlocks, readDc}
+use Rattle.plane_rules.specs.AcRead.{takeNumber, endRun, meaning, taskAt, position, blockEnd, acBlock, cut, acBlocks, readAc}
+use Rattle.box_rules.specs.Walk.{be16, be32, headAt, ones, barred, tagged, packetAt, wholeAt, sizedAt, markedAt, stepAt, stepsIn, stepsFrom, begins, walk, ending}
+use Rattle.box_rules.specs.Packets.{packetsIn, packets, isMine, mine}
+use Rattle.box_rules.specs.Numbers.{numbers, count, least, firstTwice, missingFrom, firstMissing}
+use Rattle.box_rules.specs.Box as boxes
+use Rattle.box_rules.specs.Box.{alike, agree, contents, numbered, joinedFrom, assembled, assemble, boxBytes}
+use Rattle.transform_rules.specs.Cosines.{nineCosines, halfTurn, fullTurn, kernel}
+use Rattle.transform_rules.specs.Samples.{product, rowSum, doubleSum, rounded, sample, blockSamples}
+use Rattle.transform_rules.specs.Zigzag.{firstRow, lastRow, placesBefore, zigzag, zigzagAt}
+use Rattle.transform_rules.specs.Picture as blocks
+use Rattle.transform_rules.specs.Picture.{dequantised, centre}
+use Rattle.transform_rules.specs.Call.{isQuantiser, firstBadQuantiser, inverseTransform}
+use Rattle.merge_rules.specs.Near.{nearest, clip, row}
+use Rattle.merge_rules.specs.Curves.{straight, curved, entries}
+use Rattle.merge_rules.specs.Pixels.{each, both, component}
+use Rattle.merge_rules.specs.Steps.{tinted, tints, transform, recolour, firstCentre, stepOne, stepTwo, matrixed, stepThree, scaled, stepFour, added, alone, withResidual, stepFive, basis, merged}
+use Rattle.merge_rules.specs.Settings.{inRanges, plain, srgbAllowed, residualCount, lengthsRight}
+use Rattle.merge_rules.specs.Picture.{pixelAt, mergedAt, planes, mergedPicture, merge}
 use Rattle.demands.specs.Cases.{resultOf, WhiteboardHolds}
 
 pub whiteboard-holds : WhiteboardHolds

@@ -14,12 +14,12 @@ use Rattle.laws.specs.First.{firstFail, orHere}
 use Rattle.laws.specs.declared.Found.{Found}
 use Rattle.laws.specs.declared.Found.the-variants.{At, Nothing}
 use Rattle.laws.proofs.Lists.{each}
-use Rattle.bits.specs.Digits.{digits}
-use Rattle.codes.specs.Table.{Table, table, codeCount, kraft, holds, distinct, goodTable}
-use Rattle.codes.specs.Write.{placeOf}
-use Rattle.planes.specs.Task.{Task, walk, ended}
-use Rattle.planes.specs.AcWrite.{Kind, keep, still, fresh, ahead, quiet, planned, plan, Token, code, raw, class, emit, choose, tell, mark, after, writeBlock, writeBlocks, tokens, orElse, lacking}
-use Rattle.planes.proofs.AcTokens.{order-most}
+use Rattle.bit_rules.specs.Digits.{digits}
+use Rattle.bit_rules.specs.Table.{Table, table, codeCount, kraft, holds, distinct, goodTable}
+use Rattle.bit_rules.specs.Write.{placeOf}
+use Rattle.plane_rules.specs.Task.{Task, walk, ended}
+use Rattle.plane_rules.specs.AcWrite.{Kind, keep, still, fresh, ahead, quiet, planned, plan, Token, code, raw, class, emit, choose, tell, mark, after, writeBlock, writeBlocks, tokens, orElse, lacking}
+use Rattle.plane_rules.proofs.AcTokens.{order-most}
 
 abbrev pub everyCode : Table
 everyCode =

@@ -10,7 +10,7 @@ use borrow.Author.Tests.{eqb-true, leb-true, leb-false, lt-leb}
 use lib.Dec.{T, eqb, leb}
 use lib.IntN.{ℤ, pos}
 use lib.ListN.{length, getD}
-use Rattle.listing_text.specs.Text.{listing, listPackets}
+use Rattle.box_rules.specs.Text.{listing, listPackets}
 use Rattle.laws.specs.Index.{every}
 use Rattle.laws.specs.First.{firstFail}
 use Rattle.laws.specs.declared.Found.{Found}
@@ -20,23 +20,23 @@ use Rattle.answers.specs.Verdict.{Verdict, need, unless, fitting}
 use Rattle.levels.specs.Level.{inside, firstOutside}
 use Rattle.levels.specs.declared.Part.{Part}
 use Rattle.levels.specs.declared.Part.the-variants.{Dc, Ac, Whole}
-use Rattle.bits.specs.Source.{start}
-use Rattle.codes.specs.Table.{Table, goodTable}
-use Rattle.codes.specs.Write.{placeOf}
-use Rattle.planes.specs.Plane.{readable, writable}
-use Rattle.planes.specs.Dc.{dcBlocks, readDc, dcBytes, writeDc}
-use Rattle.planes.specs.AcRead.{cut, acBlocks, readAc}
-use Rattle.planes.specs.AcWrite.{Token, code, raw, tokens, orElse, lacking, acBytes, writeAc}
-use Rattle.transform.specs.Picture.{picture}
-use Rattle.transform.specs.Call.{isQuantiser, firstBadQuantiser, inverseTransform}
-use Rattle.transform.proofs.Lengths.{picture-length}
-use Rattle.rounding.specs.Near.{top}
-use Rattle.pixel.specs.declared.Setting.{Setting}
-use Rattle.settings.specs.Tests.{inRanges, plain, srgbAllowed, samples, lengthsRight, entryRight}
-use Rattle.merge.specs.Picture as merging
-use Rattle.merge.specs.Picture.{merge}
-use Rattle.merge.proofs.Order.{picture-long}
-use Rattle.reader_c.specs.Merge.{matrixCount, settingNumber, mergeCall}
+use Rattle.bit_rules.specs.Source.{start}
+use Rattle.bit_rules.specs.Table.{Table, goodTable}
+use Rattle.bit_rules.specs.Write.{placeOf}
+use Rattle.plane_rules.specs.Plane.{readable, writable}
+use Rattle.plane_rules.specs.Dc.{dcBlocks, readDc, dcBytes, writeDc}
+use Rattle.plane_rules.specs.AcRead.{cut, acBlocks, readAc}
+use Rattle.plane_rules.specs.AcWrite.{Token, code, raw, tokens, orElse, lacking, acBytes, writeAc}
+use Rattle.transform_rules.specs.Picture.{picture}
+use Rattle.transform_rules.specs.Call.{isQuantiser, firstBadQuantiser, inverseTransform}
+use Rattle.transform_rules.proofs.Lengths.{picture-length}
+use Rattle.merge_rules.specs.Near.{top}
+use Rattle.merge_rules.specs.declared.Setting.{Setting}
+use Rattle.merge_rules.specs.Settings.{inRanges, plain, srgbAllowed, samples, lengthsRight, entryRight}
+use Rattle.merge_rules.specs.Picture as merging
+use Rattle.merge_rules.specs.Picture.{merge}
+use Rattle.merge_rules.proofs.Order.{picture-long}
+use Rattle.merge_rules.specs.Call.{matrixCount, settingNumber, mergeCall}
 use Rattle.demands.specs.One.{Rows, row, rows, stands, _then_, failing, needed, First, FirstLacking, boxRows, packetRows, listRows, dcReadRows, acReadRows, dcWriteRows, acWriteRows, transformRows, mergeRows, mergeCallRows, DemandOne}
 use Rattle.demands.specs.Blocks.{oneDc, oneAc}
 use Rattle.demands.proofs.Rows.{Judged, need-judged, failing-judged, unless-judged, fitting-judged, first-index, index-first, NoZero, answered}

@@ -3,25 +3,25 @@ use mathlib.Core.Path.{_≡_, refl, sym, ap, _∙_}
 use mathlib.Core.Bool.{Bool, true, false, cond}
 use mathlib.Core.List.{List, [], _∷_, _++_, map, map-append}
 use mathlib.Core.Option.{Option, none, some}
-use Prim.Native.Nat.{ℕ, zero, suc, _+_, _*_, _/_, _^_, _≤_, _<_}
+use Prim.Native.Nat.{ℕ, zero, suc, _+_, _*_, _/_, _<_}
 use native.Mathlib.Omega.{arith}
 use borrow.Author.Tests.{eqb-true}
 use lib.Dec.{eqb}
-use lib.IntN.{ℤ, pos, negsuc, _+ℤ_, _*ℤ_}
+use lib.IntN.{ℤ, pos, negsuc}
 use lib.ListN.{length, getD, drop, length-drop, take-append-drop}
-use Rattle.bits.specs.Digits.{bin, odd, digits}
-use Rattle.bits.specs.Source.{Source, start, Out, got, stopped, opened, afterFF, nextByte, takeFrom, takeBit}
-use Rattle.bits.specs.Reader.{Reader, andThen, done}
-use Rattle.bits.specs.declared.Stop.{Stop}
-use Rattle.codes.specs.Table.{Table}
-use Rattle.planes.specs.Plane.{Plane, read, broken, onto, inBlock}
-use Rattle.planes.specs.Dc.{newDc, dcBlocks}
-use Rattle.planes.specs.Task.{Task, walk, ended, atZero, pass}
-use Rattle.planes.specs.AcRead.{taskAt, corrected, position, blockEnd, acBlock, cut, acBlocks}
-use Rattle.planes.specs.Levels.{towardZero}
+use Rattle.bit_rules.specs.Digits.{digits}
+use Rattle.bit_rules.specs.Source.{Source, start, Out, got, stopped, opened, afterFF, nextByte, takeFrom, takeBit}
+use Rattle.bit_rules.specs.Reader.{Reader, andThen}
+use Rattle.bit_rules.specs.declared.Stop.{Stop}
+use Rattle.bit_rules.specs.Table.{Table}
+use Rattle.plane_rules.specs.Plane.{Plane, read, broken, onto, inBlock}
+use Rattle.plane_rules.specs.Dc.{newDc, dcBlocks}
+use Rattle.plane_rules.specs.Task.{Task, walk, ended, atZero}
+use Rattle.plane_rules.specs.AcRead.{taskAt, corrected, position, blockEnd, acBlock, cut, acBlocks}
+use Rattle.plane_rules.specs.Levels.{towardZero}
 use Rattle.answers.specs.declared.Refusal.{Refusal}
 use Rattle.demands.specs.Written.{together}
-use Rattle.demands.specs.Two.{DcRefined, AcRefined, carrying, allBits, DcValuesAre, AcValuesAre}
+use Rattle.demands.specs.Two.{carrying, allBits, DcValuesAre, AcValuesAre}
 
 -- ---- the bits of a source
 

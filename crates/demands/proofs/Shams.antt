@@ -1,5 +1,5 @@
 -- The shams are refuted. Assumes nothing.
-use mathlib.Core.Path.{_≡_, refl, sym, ap, subst, _∙_}
+use mathlib.Core.Path.{_≡_, refl, sym, ap, _∙_}
 use mathlib.Core.Logic.{_⊎_, inl, inr, ⊎-elim}
 use mathlib.Core.Bool.{Bool, true, false, cond}
 use mathlib.Core.List.{List, [], _∷_, map}
@@ -9,16 +9,14 @@ use native.Mathlib.Omega.{arith}
 use borrow.Author.Tests.{eqb-true}
 use lib.Dec.{T, eqb}
 use lib.IntN.{ℤ, pos, negsuc, natAbs}
-use lib.ListN.{length, getD, take, replicate}
+use lib.ListN.{getD, take, replicate}
 use Rattle.laws.specs.Index.{every}
 use Rattle.laws.proofs.Choices.{cond-left, cond-right}
-use Rattle.answers.specs.Verdict.{Verdict, given, Meets}
-use Rattle.answers.specs.declared.Answer.{Answer}
-use Rattle.planes.specs.Levels.{downward, climb}
-use Rattle.demands.specs.One.{Rows, stands, row, rows, _then_, Succeeded, Turned, Answered, packetRows, boxRows, listRows, dcReadRows, acReadRows, dcWriteRows, acWriteRows, transformRows, mergeRows}
-use Rattle.demands.specs.Two.{Exactly, DcRefined, Sampled}
-use Rattle.demands.specs.Three.{Both, Provided, readPlane, levelOf, Refined}
-use Rattle.demands.specs.Shams.{OneOutcome, OneRefusal, Only, NumbersAre, caseD, AlwaysRefusing, caseE, OnePicture, KeptOnRefusal, PlaneUntouched, five, FinalAtOnce, four, DoubledUnread, ShamsRefuted}
+use Rattle.answers.specs.Verdict.{Verdict, given}
+use Rattle.plane_rules.specs.Levels.{downward, climb}
+use Rattle.demands.specs.One.{Rows, stands, row, rows, _then_, Succeeded, Turned, packetRows, boxRows, listRows, dcReadRows, acReadRows, dcWriteRows, acWriteRows, transformRows, mergeRows}
+use Rattle.demands.specs.Three.{Both, levelOf}
+use Rattle.demands.specs.Shams.{OneOutcome, OneRefusal, Only, NumbersAre, caseD, AlwaysRefusing, caseE, OnePicture, KeptOnRefusal, PlaneUntouched, FinalAtOnce, DoubledUnread, ShamsRefuted}
 use Rattle.demands.specs.Cases.{Result, naturals, integers, resultOf, Case, onlyDc, everywhere, whiteboard}
 use Rattle.demands.proofs.Two.{dc-refined, sampled}
 use Rattle.demands.proofs.Cases.{whiteboard-holds}

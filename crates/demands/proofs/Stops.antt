@@ -12,16 +12,16 @@ use lib.Seq.{length-take-le}
 use Rattle.laws.proofs.Choices.{by-test, true-false}
 use Rattle.answers.specs.Verdict.{given, refusal, need}
 use Rattle.answers.specs.declared.Refusal.{Refusal}
-use Rattle.bits.specs.Digits.{bin}
-use Rattle.bits.specs.Source.{Source, Out, got, stopped, opened, afterFF, nextByte, takeFrom, takeBit, onlyPadding}
-use Rattle.bits.specs.Reader.{Reader, andThen}
-use Rattle.codes.specs.Table.{Table}
-use Rattle.codes.specs.Read.{codeFrom, takeCode}
-use Rattle.planes.specs.Plane.{Plane, read, broken, onto, inBlock, closed}
-use Rattle.planes.specs.Dc.{newDc, dcBlocks}
-use Rattle.planes.specs.Task.{Task, walk, ended}
-use Rattle.planes.specs.AcRead.{takeNumber, endRun, meaning, taskAt, position, blockEnd, acBlock, cut, acBlocks}
-use Rattle.demands.specs.One.{Rows, stands, row, rows, _then_}
+use Rattle.bit_rules.specs.Digits.{bin}
+use Rattle.bit_rules.specs.Source.{Source, Out, got, stopped, opened, afterFF, nextByte, takeFrom, takeBit, onlyPadding}
+use Rattle.bit_rules.specs.Reader.{Reader, andThen}
+use Rattle.bit_rules.specs.Table.{Table}
+use Rattle.bit_rules.specs.Read.{codeFrom, takeCode}
+use Rattle.plane_rules.specs.Plane.{Plane, read, broken, onto, inBlock, closed}
+use Rattle.plane_rules.specs.Dc.{newDc, dcBlocks}
+use Rattle.plane_rules.specs.Task.{Task, walk, ended}
+use Rattle.plane_rules.specs.AcRead.{takeNumber, endRun, meaning, taskAt, position, blockEnd, acBlock, cut, acBlocks}
+use Rattle.demands.specs.One.{stands, row, rows, _then_}
 use Rattle.demands.specs.Blocks.{StopsAt, LeftOver}
 use Rattle.demands.proofs.Rows.{Judged, gives, passed, told, told-last}
 use Rattle.demands.proofs.Blocks.{over, halted, endOf, over-halted, over-one, halted-one}

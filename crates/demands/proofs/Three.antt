@@ -6,12 +6,12 @@ use Prim.Native.Nat.{ℕ, zero, suc, _-_, _*_, _≤_, _<_}
 use native.Mathlib.Omega.{arith}
 use lib.IntN.{ℤ}
 use lib.ListN.{length, length-map}
-use Rattle.planes.specs.Dc.{dcBytes}
-use Rattle.planes.specs.AcWrite.{acBytes}
-use Rattle.planes.specs.Levels.{downward, towardZero}
-use Rattle.planes.proofs.Levels.{level-full, level-inside, climbed}
-use Rattle.planes.proofs.DcTrip.{dc-halving, dc-written, dc-read}
-use Rattle.planes.proofs.AcTrip.{ac-halving, ac-written, ac-read}
+use Rattle.plane_rules.specs.Dc.{dcBytes}
+use Rattle.plane_rules.specs.AcWrite.{acBytes}
+use Rattle.plane_rules.specs.Levels.{downward, towardZero}
+use Rattle.plane_rules.proofs.Levels.{level-full, level-inside, climbed}
+use Rattle.plane_rules.proofs.DcTrip.{dc-halving, dc-written, dc-read}
+use Rattle.plane_rules.proofs.AcTrip.{ac-halving, ac-written, ac-read}
 use Rattle.demands.specs.Three.{Both, Within, levelOf, Provided, Enough, writePlane, readPlane, Refined, DemandThree, CanBeMet}
 use Rattle.demands.proofs.Held.{everyCode, every-good, every-held}
 

@@ -10,7 +10,7 @@ use lib.Dec.{leb, eqb}
 use lib.IntN.{ℤ, pos}
 use lib.ListN.{length, take, drop}
 use lib.Seq.{take-append-seam}
-use Rattle.listing_text.specs.Text.{listing, listPackets}
+use Rattle.box_rules.specs.Text.{listing, listPackets}
 use Rattle.laws.specs.Index.{every}
 use Rattle.laws.specs.First.{firstFail}
 use Rattle.answers.specs.Verdict.{Verdict, given, refused, fitting, Meets}
@@ -19,20 +19,20 @@ use Rattle.answers.specs.declared.Answer.{Answer}
 use Rattle.answers.proofs.Given.{need-given, unless-given}
 use Rattle.levels.specs.Level.{firstOutside}
 use Rattle.levels.specs.declared.Part.the-variants.{Dc, Ac, Whole}
-use Rattle.bits.specs.Source.{Source, start, onlyPadding}
-use Rattle.codes.specs.Table.{Table, goodTable}
-use Rattle.planes.specs.Plane.{readable, writable, Plane, read, broken, closed}
-use Rattle.planes.specs.Dc.{dcBlocks, readDc, dcBytes, writeDc}
-use Rattle.planes.specs.AcRead.{cut, acBlocks, readAc}
-use Rattle.planes.specs.AcWrite.{tokens, lacking, acBytes, writeAc}
-use Rattle.boxes.proofs.Order.{handed-given, given-handed}
-use Rattle.transform.specs.Picture as blockwise
-use Rattle.transform.specs.Call.{firstBadQuantiser, inverseTransform}
-use Rattle.rounding.specs.Near.{top}
-use Rattle.pixel.specs.declared.Setting.{Setting}
-use Rattle.settings.specs.Tests.{inRanges, plain, srgbAllowed, lengthsRight, entryRight}
-use Rattle.merge.specs.Picture.{mergedPicture, merge}
-use Rattle.reader_c.specs.Merge.{matrixCount, mergeCall}
+use Rattle.bit_rules.specs.Source.{Source, start, onlyPadding}
+use Rattle.bit_rules.specs.Table.{Table, goodTable}
+use Rattle.plane_rules.specs.Plane.{readable, writable, Plane, read, broken, closed}
+use Rattle.plane_rules.specs.Dc.{dcBlocks, readDc, dcBytes, writeDc}
+use Rattle.plane_rules.specs.AcRead.{cut, acBlocks, readAc}
+use Rattle.plane_rules.specs.AcWrite.{tokens, lacking, acBytes, writeAc}
+use Rattle.box_rules.proofs.Order.{handed-given, given-handed}
+use Rattle.transform_rules.specs.Picture as blockwise
+use Rattle.transform_rules.specs.Call.{firstBadQuantiser, inverseTransform}
+use Rattle.merge_rules.specs.Near.{top}
+use Rattle.merge_rules.specs.declared.Setting.{Setting}
+use Rattle.merge_rules.specs.Settings.{inRanges, plain, srgbAllowed, lengthsRight, entryRight}
+use Rattle.merge_rules.specs.Picture.{mergedPicture, merge}
+use Rattle.merge_rules.specs.Call.{matrixCount, mergeCall}
 use Rattle.demands.specs.One.{Rows}
 use Rattle.demands.specs.Two.{Exactly, Listed, DcRefined, AcRefined, DcCoded, AcCoded, Sampled, Merged, MergeCalled, DemandTwo}
 use Rattle.demands.proofs.Rows.{Keeps, refuses, Judged, NoZero}

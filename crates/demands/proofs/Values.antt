@@ -11,14 +11,14 @@ use Rattle.laws.specs.Index.{tab}
 use Rattle.laws.proofs.Lists.{length-tab, getD-tab}
 use Rattle.laws.proofs.Spread.{getD-join}
 use Rattle.laws.proofs.Sums.{sum-ext}
-use Rattle.kernel.specs.Cosines.{kernel}
-use Rattle.kernel.specs.Samples.{product, rowSum, doubleSum, rounded, sample, blockSamples}
-use Rattle.transform.specs.Zigzag.{zigzag, zigzagAt}
-use Rattle.transform.specs.Picture as blockwise
-use Rattle.transform.specs.Picture.{timesQuantiser, dequantised, centre}
-use Rattle.transform.proofs.Lengths.{block-length}
-use Rattle.pixel.specs.Pixels.{component}
-use Rattle.merge.specs.Picture.{mergedAt, planes, mergedPicture}
+use Rattle.transform_rules.specs.Cosines.{kernel}
+use Rattle.transform_rules.specs.Samples.{product, rowSum, doubleSum, rounded, sample, blockSamples}
+use Rattle.transform_rules.specs.Zigzag.{zigzag, zigzagAt}
+use Rattle.transform_rules.specs.Picture as blockwise
+use Rattle.transform_rules.specs.Picture.{timesQuantiser, dequantised, centre}
+use Rattle.transform_rules.proofs.Lengths.{block-length}
+use Rattle.merge_rules.specs.Pixels.{component}
+use Rattle.merge_rules.specs.Picture.{mergedAt, planes, mergedPicture}
 use Rattle.demands.specs.Two.{sampleAt, SamplesAre, ResultsAre}
 
 -- ---- samples

@@ -13,15 +13,15 @@ use Rattle.answers.specs.Verdict.{refusal}
 use Rattle.answers.specs.declared.Refusal.{Refusal}
 use Rattle.answers.specs.declared.Outcome.{Outcome}
 use Rattle.answers.specs.declared.Outcome.the-variants.{Given, Refused}
-use Rattle.packets.specs.Walk.{be16, headAt, ones, barred, tagged, packetAt, wholeAt, sizedAt, markedAt, stepAt, stepsFrom, begins, walk, ending}
-use Rattle.packets.specs.declared.Step.{Step}
-use Rattle.packets.specs.declared.Step.the-variants.{End, Skip, Meet, Broken}
-use Rattle.packets.specs.Packets.{Packet, packets, mine}
-use Rattle.packets.proofs.Walking.{walk-begun, walk-not, forward-skip, forward-meet, ending-end, ending-broken, ending-skip, ending-meet}
-use Rattle.numbers.specs.Numbers.{numbers, firstTwice, firstMissing, missingFrom}
-use Rattle.numbers.proofs.Smallest.{smallest-twice, twice-is, smallest-missing, missing-is}
-use Rattle.boxes.specs.Box.{agree, contents, total, joined, assembled, assemble, afterWalk, boxBytes}
-use Rattle.boxes.proofs.Order.{fine-total}
+use Rattle.box_rules.specs.Walk.{be16, headAt, ones, barred, tagged, packetAt, wholeAt, sizedAt, markedAt, stepAt, stepsFrom, begins, walk, ending}
+use Rattle.box_rules.specs.declared.Step.{Step}
+use Rattle.box_rules.specs.declared.Step.the-variants.{End, Skip, Meet, Broken}
+use Rattle.box_rules.specs.Packets.{Packet, packets, mine}
+use Rattle.box_rules.proofs.Walking.{walk-begun, walk-not, forward-skip, forward-meet, ending-end, ending-broken, ending-skip, ending-meet}
+use Rattle.box_rules.specs.Numbers.{numbers, firstTwice, firstMissing, missingFrom}
+use Rattle.box_rules.proofs.Smallest.{smallest-twice, twice-is, smallest-missing, missing-is}
+use Rattle.box_rules.specs.Box.{agree, contents, total, joined, assembled, assemble, afterWalk, boxBytes}
+use Rattle.box_rules.proofs.Order.{fine-total}
 use Rattle.demands.specs.One.{Rows, row, rows, _then_, failing, Reached, first, skipped, met, brokenAt, twiceAt, missingAt, notFilled, packetRows, boxRows}
 use Rattle.demands.proofs.Rows.{Judged, passed, told, need-judged, failing-judged, unless-judged, fitting-judged}
 

@@ -1,24 +1,24 @@
 -- The writer's runs are the longest, begin at once, and F0 stands only before a new value. Assumes nothing.
 use mathlib.Core.Path.{_≡_, refl, sym, ap, _∙_}
 use mathlib.Core.Bool.{Bool, true, false, cond}
-use mathlib.Core.List.{List, [], _∷_, _++_, map, append-nil}
+use mathlib.Core.List.{List, [], _∷_, _++_, map}
 use mathlib.Core.Option.{Option, none, some}
-use Prim.Native.Nat.{ℕ, zero, suc, _+_, _/_, _≤_, _<_}
+use Prim.Native.Nat.{ℕ, zero, suc, _+_, _≤_, _<_}
 use native.Mathlib.Omega.{arith}
 use borrow.Author.Tests.{ltb-false}
 use lib.Dec.{ltb}
 use lib.IntN.{ℤ, pos, negsuc, natAbs}
 use lib.ListN.{length, getD, take, drop, length-map}
 use lib.Seq.{take-append-seam, drop-append-seam}
-use Rattle.bits.specs.Source.{Source, Out, got, stopped, takeBit}
-use Rattle.codes.specs.Table.{Table}
-use Rattle.planes.specs.Plane.{Plane, read, broken, onto, inBlock}
-use Rattle.planes.specs.Task.{Task, walk, ended, over, atZero, pass}
-use Rattle.planes.specs.AcRead.{taskAt, position, blockEnd, acBlock, acBlocks}
-use Rattle.planes.specs.AcWrite.{acHalf, Kind, keep, still, fresh, kindOf, oneMore, ahead, unlessNew, quiet, planned, plan, Token, emit, mark, writeBlock}
-use Rattle.planes.specs.Levels.{towardZero}
+use Rattle.bit_rules.specs.Source.{Source, Out, got, stopped, takeBit}
+use Rattle.bit_rules.specs.Table.{Table}
+use Rattle.plane_rules.specs.Plane.{read, onto, inBlock}
+use Rattle.plane_rules.specs.Task.{Task, walk, ended, over}
+use Rattle.plane_rules.specs.AcRead.{taskAt, position, blockEnd, acBlock, acBlocks}
+use Rattle.plane_rules.specs.AcWrite.{acHalf, Kind, keep, still, fresh, kindOf, oneMore, ahead, unlessNew, quiet, planned, plan, writeBlock}
+use Rattle.plane_rules.specs.Levels.{towardZero}
 use Rattle.demands.specs.Written.{together, LongestRun, marks, EndsAtOnce, NewValueLater, SixteenBeforeNew}
-use Rattle.demands.proofs.Planes.{got-both, stopped-got, broken-read, fronted, came, half-block}
+use Rattle.demands.proofs.Planes.{got-both, broken-read, fronted, came, half-block}
 
 -- ---- what an end run leaves: no new value
 

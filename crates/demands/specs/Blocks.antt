@@ -6,11 +6,11 @@ use mathlib.Core.Option.{Option}
 use Prim.Native.Nat.{ℕ, suc}
 use lib.IntN.{ℤ}
 use lib.ListN.{length}
-use Rattle.bits.specs.Source.{Source, Out, got, stopped, stop, takeBit, onlyPadding}
-use Rattle.bits.specs.Reader.{andThen, done}
-use Rattle.codes.specs.Table.{Table}
-use Rattle.planes.specs.Task.{Task}
-use Rattle.planes.specs.AcRead.{acBlock}
+use Rattle.bit_rules.specs.Source.{Source, Out, got, stopped, stop, takeBit, onlyPadding}
+use Rattle.bit_rules.specs.Reader.{andThen, done}
+use Rattle.bit_rules.specs.Table.{Table}
+use Rattle.plane_rules.specs.Task.{Task}
+use Rattle.plane_rules.specs.AcRead.{acBlock}
 
 -- the first p blocks were read well, each from where the one before it left off: what is open then, the blocks that are left, and the data that are left
 pub data Behind {A B : Type 0} (one : A → B → List B → Source → Out A) (o₀ : A) (bs₀ : List B) (s₀ : Source) : ℕ → A → List B → Source → Type 0 where

@@ -5,21 +5,21 @@ use Prim.Native.Nat.{ℕ}
 use lib.IntN.{ℤ, pos, negsuc}
 use lib.ListN.{replicate}
 use Rattle.answers.specs.Verdict.{Verdict, given, refused, refusal}
-use Rattle.codes.specs.Table.{Table, table}
-use Rattle.planes.specs.Dc.{readDc}
-use Rattle.planes.specs.AcRead.{readAc}
-use Rattle.boxes.specs.Box.{boxBytes}
-use Rattle.transform.specs.Call.{inverseTransform}
-use Rattle.curves.specs.declared.Curve.the-variants.{Straight}
-use Rattle.pixel.specs.declared.Setting.{Setting}
-use Rattle.pixel.specs.declared.Colour.{Colour}
-use Rattle.pixel.specs.declared.Colour.the-variants.{Identity, Transform}
-use Rattle.pixel.specs.declared.Matrix.the-variants.{None}
-use Rattle.pixel.specs.declared.Residual.{Residual}
-use Rattle.pixel.specs.declared.Residual.the-variants.{Absent, Present}
-use Rattle.pixel.specs.Pixels.{Pixel, triple}
-use Rattle.pixel.specs.Steps.{stepOne}
-use Rattle.merge.specs.Picture.{merge}
+use Rattle.bit_rules.specs.Table.{Table, table}
+use Rattle.plane_rules.specs.Dc.{readDc}
+use Rattle.plane_rules.specs.AcRead.{readAc}
+use Rattle.box_rules.specs.Box.{boxBytes}
+use Rattle.transform_rules.specs.Call.{inverseTransform}
+use Rattle.merge_rules.specs.declared.Curve.the-variants.{Straight}
+use Rattle.merge_rules.specs.declared.Setting.{Setting}
+use Rattle.merge_rules.specs.declared.Colour.{Colour}
+use Rattle.merge_rules.specs.declared.Colour.the-variants.{Identity, Transform}
+use Rattle.merge_rules.specs.declared.Matrix.the-variants.{None}
+use Rattle.merge_rules.specs.declared.Residual.{Residual}
+use Rattle.merge_rules.specs.declared.Residual.the-variants.{Absent, Present}
+use Rattle.merge_rules.specs.Pixels.{Pixel, triple}
+use Rattle.merge_rules.specs.Steps.{stepOne}
+use Rattle.merge_rules.specs.Picture.{merge}
 
 -- what is asked: a call with its inputs and the room lent, or step 1 of the merge for a pixel
 pub data Asked : Type 0 where

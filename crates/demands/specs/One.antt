@@ -9,32 +9,32 @@ use Prim.Native.Nat.{ℕ, _+_, _-_, _*_, _≤_, _<_}
 use lib.Dec.{T, eqb, leb}
 use lib.IntN.{ℤ, pos}
 use lib.ListN.{length, getD, drop, replicate}
-use Rattle.listing_text.specs.Text.{listing, listPackets}
+use Rattle.box_rules.specs.Text.{listing, listPackets}
 use Rattle.laws.specs.Index.{every}
 use Rattle.laws.specs.declared.Found.the-variants.{Nothing}
 use Rattle.answers.specs.Verdict.{refusal, Meets}
 use Rattle.answers.specs.declared.Answer.{Answer}
 use Rattle.levels.specs.Level.{inside}
 use Rattle.levels.specs.declared.Part.the-variants.{Dc, Ac, Whole}
-use Rattle.bits.specs.Source.{start}
-use Rattle.codes.specs.Table.{Table, goodTable}
-use Rattle.codes.specs.Write.{placeOf}
-use Rattle.planes.specs.Plane.{readable, writable}
-use Rattle.planes.specs.Dc.{readDc, dcBytes, writeDc}
-use Rattle.planes.specs.AcRead.{cut, readAc}
-use Rattle.planes.specs.AcWrite.{Token, code, tokens, lacking, acBytes, writeAc}
-use Rattle.packets.specs.Walk.{stepAt, begins}
-use Rattle.packets.specs.declared.Head.{Head}
-use Rattle.packets.specs.declared.Step.the-variants.{Skip, Meet, Broken}
-use Rattle.packets.specs.Packets.{Packet, packets, mine}
-use Rattle.numbers.specs.Numbers.{numbers, count}
-use Rattle.boxes.specs.Box.{agree, contents, total, boxBytes}
-use Rattle.transform.specs.Call.{isQuantiser, inverseTransform}
-use Rattle.rounding.specs.Near.{top}
-use Rattle.pixel.specs.declared.Setting.{Setting}
-use Rattle.settings.specs.Tests.{inRanges, plain, srgbAllowed, samples, lengthsRight, entryRight}
-use Rattle.merge.specs.Picture.{merge}
-use Rattle.reader_c.specs.Merge.{matrixCount, mergeCall}
+use Rattle.bit_rules.specs.Source.{start}
+use Rattle.bit_rules.specs.Table.{Table, goodTable}
+use Rattle.bit_rules.specs.Write.{placeOf}
+use Rattle.plane_rules.specs.Plane.{readable, writable}
+use Rattle.plane_rules.specs.Dc.{readDc, dcBytes, writeDc}
+use Rattle.plane_rules.specs.AcRead.{cut, readAc}
+use Rattle.plane_rules.specs.AcWrite.{Token, code, tokens, lacking, acBytes, writeAc}
+use Rattle.box_rules.specs.Walk.{stepAt, begins}
+use Rattle.box_rules.specs.declared.Head.{Head}
+use Rattle.box_rules.specs.declared.Step.the-variants.{Skip, Meet, Broken}
+use Rattle.box_rules.specs.Packets.{Packet, packets, mine}
+use Rattle.box_rules.specs.Numbers.{numbers, count}
+use Rattle.box_rules.specs.Box.{agree, contents, total, boxBytes}
+use Rattle.transform_rules.specs.Call.{isQuantiser, inverseTransform}
+use Rattle.merge_rules.specs.Near.{top}
+use Rattle.merge_rules.specs.declared.Setting.{Setting}
+use Rattle.merge_rules.specs.Settings.{inRanges, plain, srgbAllowed, samples, lengthsRight, entryRight}
+use Rattle.merge_rules.specs.Picture.{merge}
+use Rattle.merge_rules.specs.Call.{matrixCount, mergeCall}
 use Rattle.demands.specs.Blocks.{StopsAt, LeftOver, oneDc, oneAc}
 
 -- ---- 01's table: which number with which place, and when

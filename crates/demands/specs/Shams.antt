@@ -8,9 +8,9 @@ use lib.IntN.{ℤ, pos, negsuc}
 use lib.ListN.{length, replicate}
 use Rattle.answers.specs.Verdict.{Verdict, Meets}
 use Rattle.answers.specs.declared.Answer.{Answer}
-use Rattle.codes.specs.Table.{Table}
-use Rattle.pixel.specs.declared.Setting.{Setting}
-use Rattle.planes.specs.Levels.{climb}
+use Rattle.bit_rules.specs.Table.{Table}
+use Rattle.merge_rules.specs.declared.Setting.{Setting}
+use Rattle.plane_rules.specs.Levels.{climb}
 use Rattle.demands.specs.One.{Rows, stands, Answered, boxRows, listRows, dcReadRows, acReadRows, dcWriteRows, acWriteRows, transformRows, mergeRows}
 use Rattle.demands.specs.Two.{Exactly, DcRefined, Sampled}
 use Rattle.demands.specs.Three.{Both, Provided, readPlane, levelOf, Refined}

@@ -12,11 +12,11 @@ use Rattle.laws.specs.declared.Found.the-variants.{Nothing}
 use Rattle.answers.specs.Verdict.{Verdict, given, refused}
 use Rattle.levels.specs.Level.{firstOutside}
 use Rattle.levels.specs.declared.Part.the-variants.{Dc, Ac}
-use Rattle.codes.specs.Table.{Table, goodTable}
-use Rattle.planes.specs.Dc.{readDc, writeDc, dcBytes}
-use Rattle.planes.specs.AcRead.{readAc}
-use Rattle.planes.specs.AcWrite.{writeAc, tokens, lacking, acBytes}
-use Rattle.planes.specs.Levels.{downward, towardZero, atLevel, climb}
+use Rattle.bit_rules.specs.Table.{Table, goodTable}
+use Rattle.plane_rules.specs.Dc.{readDc, writeDc, dcBytes}
+use Rattle.plane_rules.specs.AcRead.{readAc}
+use Rattle.plane_rules.specs.AcWrite.{writeAc, tokens, lacking, acBytes}
+use Rattle.plane_rules.specs.Levels.{downward, towardZero, atLevel, climb}
 
 -- "Plane j" of a picture means both, DC and AC: the values of its blocks, or the bytes of a plane
 pub record Both (A : Type 0) : Type 0 where

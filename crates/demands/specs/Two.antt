@@ -9,7 +9,7 @@ use lib.Dec.{leb, eqb}
 use lib.IntN.{ℤ, pos, _+ℤ_, _*ℤ_}
 use lib.ListN.{length, getD, take}
 use lib.Signed.{shrZ}
-use Rattle.listing_text.specs.Text.{listing, listPackets}
+use Rattle.box_rules.specs.Text.{listing, listPackets}
 use Rattle.laws.specs.Index.{sumTo, every}
 use Rattle.laws.specs.First.{firstFail}
 use Rattle.laws.specs.declared.Found.the-variants.{Nothing}
@@ -17,27 +17,27 @@ use Rattle.answers.specs.Verdict.{Meets}
 use Rattle.answers.specs.declared.Answer.{Answer}
 use Rattle.levels.specs.Level.{firstOutside}
 use Rattle.levels.specs.declared.Part.the-variants.{Dc, Ac, Whole}
-use Rattle.bits.specs.Digits.{bin, digits}
-use Rattle.bits.specs.Source.{Source, start, onlyPadding}
-use Rattle.codes.specs.Table.{Table, goodTable}
-use Rattle.planes.specs.Plane.{readable, writable, read}
-use Rattle.planes.specs.Dc.{dcBlocks, readDc, dcBytes, writeDc}
-use Rattle.planes.specs.AcRead.{cut, acBlocks, readAc}
-use Rattle.planes.specs.AcWrite.{tokens, lacking, acBytes, writeAc}
-use Rattle.planes.specs.Levels.{towardZero}
-use Rattle.boxes.specs.Box.{boxBytes}
-use Rattle.boxes.specs.Order.{HandedOut}
-use Rattle.kernel.specs.Cosines.{kernel}
-use Rattle.transform.specs.Zigzag.{zigzag}
-use Rattle.transform.specs.Picture as blockwise
-use Rattle.transform.specs.Call.{firstBadQuantiser, inverseTransform}
-use Rattle.rounding.specs.Near.{top}
-use Rattle.pixel.specs.declared.Setting.{Setting}
-use Rattle.pixel.specs.Pixels.{component}
-use Rattle.pixel.specs.Steps.{merged}
-use Rattle.settings.specs.Tests.{inRanges, plain, srgbAllowed, lengthsRight, entryRight}
-use Rattle.merge.specs.Picture.{pixelAt, mergedPicture, merge}
-use Rattle.reader_c.specs.Merge.{matrixCount, mergeCall}
+use Rattle.bit_rules.specs.Digits.{bin, digits}
+use Rattle.bit_rules.specs.Source.{Source, start, onlyPadding}
+use Rattle.bit_rules.specs.Table.{Table, goodTable}
+use Rattle.plane_rules.specs.Plane.{readable, writable, read}
+use Rattle.plane_rules.specs.Dc.{dcBlocks, readDc, dcBytes, writeDc}
+use Rattle.plane_rules.specs.AcRead.{cut, acBlocks, readAc}
+use Rattle.plane_rules.specs.AcWrite.{tokens, lacking, acBytes, writeAc}
+use Rattle.plane_rules.specs.Levels.{towardZero}
+use Rattle.box_rules.specs.Box.{boxBytes}
+use Rattle.box_rules.specs.Order.{HandedOut}
+use Rattle.transform_rules.specs.Cosines.{kernel}
+use Rattle.transform_rules.specs.Zigzag.{zigzag}
+use Rattle.transform_rules.specs.Picture as blockwise
+use Rattle.transform_rules.specs.Call.{firstBadQuantiser, inverseTransform}
+use Rattle.merge_rules.specs.Near.{top}
+use Rattle.merge_rules.specs.declared.Setting.{Setting}
+use Rattle.merge_rules.specs.Pixels.{component}
+use Rattle.merge_rules.specs.Steps.{merged}
+use Rattle.merge_rules.specs.Settings.{inRanges, plain, srgbAllowed, lengthsRight, entryRight}
+use Rattle.merge_rules.specs.Picture.{pixelAt, mergedPicture, merge}
+use Rattle.merge_rules.specs.Call.{matrixCount, mergeCall}
 
 -- what was written is right; and where 01 has values, these were written
 pub record Exactly {A : Type 0} (Right : List A → Type 0) (after : List A) (answer : Answer) : Type 0 where

@@ -2,16 +2,16 @@
 use mathlib.Core.Path.{_≡_}
 use mathlib.Core.Bool.{Bool}
 use mathlib.Core.List.{List, [], _∷_, _++_, map}
-use mathlib.Core.Option.{Option, none, some}
+use mathlib.Core.Option.{none, some}
 use Prim.Native.Nat.{ℕ, suc, _≤_, _<_}
 use lib.IntN.{ℤ}
 use lib.ListN.{length}
-use Rattle.bits.specs.Source.{Source}
-use Rattle.codes.specs.Table.{Table}
-use Rattle.planes.specs.Plane.{read}
-use Rattle.planes.specs.Task.{Task, walk, ended, over}
-use Rattle.planes.specs.AcRead.{acBlocks}
-use Rattle.planes.specs.AcWrite.{acHalf, Kind, kindOf, ahead, quiet, plan, Token, emit, mark, writeBlock}
+use Rattle.bit_rules.specs.Source.{Source}
+use Rattle.bit_rules.specs.Table.{Table}
+use Rattle.plane_rules.specs.Plane.{read}
+use Rattle.plane_rules.specs.Task.{walk, ended, over}
+use Rattle.plane_rules.specs.AcRead.{acBlocks}
+use Rattle.plane_rules.specs.AcWrite.{acHalf, Kind, kindOf, ahead, quiet, plan, Token, emit, mark, writeBlock}
 
 -- the values of blocks, one behind the other
 abbrev pub together : List (List ℤ) → List ℤ

@@ -9,7 +9,7 @@ use Rattle.laws.specs.declared.Found.{Found}
 use Rattle.laws.specs.declared.Found.the-variants.{At, Nothing}
 use Rattle.answers.specs.Verdict.{Meets}
 use Rattle.answers.specs.declared.Answer.{Answer}
-use Rattle.boxes.specs.Box.{boxBytes}
+use Rattle.box_rules.specs.Box.{boxBytes}
 use Rattle.desk.specs.declared.Reply.{Reply}
 use Rattle.desk.specs.declared.Reply.the-variants.{Usage, Refused, Bytes}
 

@@ -8,8 +8,8 @@ use lib.Signed.{shrZ}
 use Rattle.laws.specs.Index.{sumTo}
 use Rattle.laws.proofs.Integers.{abs-prod-le, abs-sum, floor-abs}
 use Rattle.laws.proofs.Sums.{sum-abs}
-use Rattle.kernel.specs.Cosines.{kernel}
-use Rattle.kernel.specs.Samples.{product, rowSum, doubleSum, Products}
+use Rattle.transform_rules.specs.Cosines.{kernel}
+use Rattle.transform_rules.specs.Samples.{product, rowSum, doubleSum, Products}
 use Rattle.kernel.proofs.Tables.{kernel-small}
 
 pub factors-small : (x u y v : ℕ) → x < 8 → u < 8 → y < 8 → v < 8 → natAbs (kernel x u *ℤ kernel y v) ≤ 67108864

@@ -9,7 +9,7 @@ use lib.IntN.{ℤ, pos, negsuc, natAbs}
 use lib.Arith.{digits-div, digits-mod}
 use Rattle.laws.specs.Index.{tab}
 use Rattle.laws.proofs.Lists.{length-tab, getD-tab, each}
-use Rattle.kernel.specs.Cosines.{nineCosines, halfTurn, fullTurn, kernel, kernelTable}
+use Rattle.transform_rules.specs.Cosines.{nineCosines, halfTurn, fullTurn, kernel, kernelTable}
 
 -- K(x,u) at 8x + u
 abbrev pub kernels : List ℤ

@@ -4,8 +4,8 @@ ghost use mathlib.Core.List.{_++_};
 ghost use Prim.Native.Nat.{_+_, _^_, _<_, _≤_};
 ghost use lib.IntN.{pos, natAbs};
 ghost use lib.ListN.{length, take, drop};
-ghost use Rattle.kernel.specs.Cosines.{kernel, kernelTable};
-ghost use Rattle.kernel.specs.Samples.{product, rowSum, doubleSum, rounded, sample, blockSamples, Products};
+ghost use Rattle.transform_rules.specs.Cosines.{kernel, kernelTable};
+ghost use Rattle.transform_rules.specs.Samples.{product, rowSum, doubleSum, rounded, sample, blockSamples, Products};
 
 // K(x,u) at 8x + u.
 const KERNEL: [i64; 64] = [

@@ -2,31 +2,24 @@
 use Prim.Native.Nat.{ℕ, zero, suc, _+_, _*_, _-_, _/_, _%_, _^_, _≤_, _<_}
 use mathlib.Core.Path.{_≡_, refl, ap, ap₂, sym, subst, _∙_}
 use mathlib.Core.List.{List, [], _∷_, _++_}
-use mathlib.Core.Bool.{Bool, true, false}
-use mathlib.Core.Logic.{_⊎_, inl, inr, ⊎-elim}
+use mathlib.Core.Logic.{_⊎_, ⊎-elim}
 use native.Mathlib.Omega.{arith}
 use native.Mathlib.Numerals.{add-one}
 use native.Mathlib.Nat.{zero-add}
 use lib.ListN.{length, take, drop, set, length-append, length-set}
 use lib.Seq.{set-out, sets, sets-eq}
-use lib.Dec.{ltb}
-use borrow.Author.Tests.{lt-ltb, le-ltb, ltb-true, ltb-false, le-leb, lt-leb}
+use borrow.Author.Tests.{lt-ltb, le-ltb, le-leb, lt-leb}
 use Rattle.answers.specs.Verdict.{given, refused, refusal}
 use Rattle.answers.specs.declared.Refusal.{Refusal}
 use Rattle.answers.specs.declared.Outcome.the-variants.{Given, Refused}
-use Rattle.packets.specs.declared.Head.{Head}
-use Rattle.packets.specs.declared.Step.the-variants.{End, Skip, Meet, Broken}
-use Rattle.packets.specs.Walk.{stepAt, stepsFrom, walk, ending}
-use Rattle.packets.specs.Packets.{Packet, packetsIn}
-use Rattle.packets.proofs.Walking.{forward-meet, packets-end, packets-broken, packets-skip, packets-meet, packets-all, part-length}
-use Rattle.listing_text.specs.Text.{line, lines, header, answer, listing, listPackets, decIn, dec, glyph, hex, write, Wrote}
-
-less : (a b : ℕ) → (a < b) ⊎ (b ≤ a)
-less a b = go (ltb a b) refl
-  where
-    go : (t : Bool) → ltb a b ≡ t → (a < b) ⊎ (b ≤ a)
-    go true e = inl (ltb-true a b e)
-    go false e = inr (ltb-false a b e)
+use Rattle.box_rules.specs.declared.Head.{Head}
+use Rattle.box_rules.specs.declared.Step.the-variants.{End, Skip, Meet, Broken}
+use Rattle.box_rules.specs.Walk.{stepAt, stepsFrom, walk, ending}
+use Rattle.box_rules.specs.Packets.{Packet, packetsIn}
+use Rattle.box_rules.proofs.Walking.{forward-meet, packets-end, packets-broken, packets-skip, packets-meet, packets-all, part-length}
+use Rattle.box_rules.specs.Text.{line, lines, header, answer, listing, listPackets, dec, glyph, hex}
+use Rattle.listing_text.specs.Code.{write, Wrote}
+use Rattle.box_rules.proofs.Decimal.{less, dec-small, dec-more}
 
 -- ---- writing
 
@@ -70,26 +63,6 @@ pub wrote-length : {d d′ b : List ℕ} {at r : ℕ} → Wrote d d′ at r b �
 wrote-length {d} {d′} {b} {at} {r} w = ap length (w .text) ∙ write-length b d at
 
 -- ---- decimal
-
-dec-enough : (k j n : ℕ) → n ≤ k → n ≤ j → decIn k n ≡ decIn j n
-unfolding decIn
-dec-enough zero zero n g h = refl
-dec-enough zero (suc j) n g h = rw (lt-ltb n 10 (omega arith))
-dec-enough (suc k) zero n g h = rw (lt-ltb n 10 (omega arith))
-dec-enough (suc k) (suc j) n g h = ⊎-elim
-    (λ t. rw (lt-ltb n 10 t))
-    (λ t. rw (le-ltb n 10 t, dec-enough k j (n / 10) (omega arith) (omega arith)))
-    (less n 10)
-
-pub dec-small : (n : ℕ) → n < 10 → dec n ≡ (48 + n) ∷ []
-unfolding dec decIn
-dec-small zero h = refl
-dec-small (suc n) h = rw (lt-ltb (suc n) 10 h)
-
-pub dec-more : (n : ℕ) → 10 ≤ n → dec n ≡ dec (n / 10) ++ ((48 + n % 10) ∷ [])
-unfolding dec decIn
-dec-more zero h = absurd (omega arith)
-dec-more (suc n) h = rw (le-ltb (suc n) 10 h, dec-enough n (suc n / 10) (suc n / 10) (omega arith) (omega arith))
 
 tens : ℕ → ℕ
 tens zero = 1

@@ -1,16 +1,17 @@
 // The listing of a file's packets as text (01, "The listing program").
 use answers::Answer;
 use answers::Outcome;
-use packets::Step;
+use box_rules::Step;
 ghost use mathlib.Core.Path.{_≡_};
 ghost use mathlib.Core.List.{[], _∷_};
 ghost use Prim.Native.Nat.{_+_, _≤_, _<_};
 ghost use lib.ListN.{length};
 ghost use Rattle.answers.specs.Verdict.{Meets, Tried};
-ghost use Rattle.packets.specs.Walk.{stepsFrom};
-ghost use Rattle.packets.specs.Packets.{packetsIn};
-ghost use Rattle.listing_text.specs.Text.{listPackets, dec, hex, lines, Wrote};
-ghost use Rattle.listing_text.specs.Text.{glyph as Text·glyph, line as Text·line, answer as Text·answer, listing as Text·listing};
+ghost use Rattle.box_rules.specs.Walk.{stepsFrom};
+ghost use Rattle.box_rules.specs.Packets.{packetsIn};
+ghost use Rattle.box_rules.specs.Text.{listPackets, dec, hex, lines};
+ghost use Rattle.listing_text.specs.Code.{Wrote};
+ghost use Rattle.box_rules.specs.Text.{glyph as Text·glyph, line as Text·line, answer as Text·answer, listing as Text·listing};
 
 // Stores a byte where there is room, and answers the next position.
 fn put(out: &mut [u8], at: usize, b: u8) -> usize

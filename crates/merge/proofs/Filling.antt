@@ -6,10 +6,10 @@ use native.Mathlib.Omega.{arith}
 use lib.IntN.{ℤ}
 use lib.ListN.{length, set, drop}
 use Rattle.laws.proofs.Spread.{Spread, spread-start, spread-at, spread-turn, spread-end}
-use Rattle.pixel.specs.declared.Setting.{Setting}
-use Rattle.pixel.specs.Pixels.{single, triple, component}
-use Rattle.settings.specs.Tests.{samples}
-use Rattle.merge.specs.Picture.{mergedAt, planes, mergedPicture}
+use Rattle.merge_rules.specs.declared.Setting.{Setting}
+use Rattle.merge_rules.specs.Pixels.{single, triple, component}
+use Rattle.merge_rules.specs.Settings.{samples}
+use Rattle.merge_rules.specs.Picture.{mergedAt, planes, mergedPicture}
 
 module _ (s : Setting) (n : ℕ) (base residual : List ℤ) (table : List ℕ) where
   -- the sample of component k of pixel p

@@ -6,13 +6,13 @@ use Prim.Native.Nat.{ℕ, _+_, _*_, _<_}
 use native.Mathlib.Omega.{arith}
 use lib.IntN.{ℤ, pos}
 use lib.ListN.{getD}
-use Rattle.pixel.specs.declared.Setting.{Setting}
-use Rattle.pixel.specs.declared.Residual.the-variants.{Absent, Present}
-use Rattle.pixel.specs.Pixels.{Pixel, single, triple, each, both}
-use Rattle.pixel.specs.Steps.{scaled, stepFour, added, alone, withResidual, stepFive, basis, merged}
+use Rattle.merge_rules.specs.declared.Setting.{Setting}
+use Rattle.merge_rules.specs.declared.Residual.the-variants.{Absent, Present}
+use Rattle.merge_rules.specs.Pixels.{Pixel, single, triple, each, both}
+use Rattle.merge_rules.specs.Steps.{scaled, stepFour, added, alone, withResidual, stepFive, basis, merged}
 use Rattle.pixel.proofs.Laws.{four-single}
-use Rattle.settings.specs.Tests.{samples}
-use Rattle.merge.specs.Picture.{pixelAt, mergedAt}
+use Rattle.merge_rules.specs.Settings.{samples}
+use Rattle.merge_rules.specs.Picture.{pixelAt, mergedAt}
 
 -- ---- places of a pixel in the planes
 

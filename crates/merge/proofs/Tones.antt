@@ -1,22 +1,23 @@
 -- The picture by another curve with the same tones, and what the loops ask where a table takes the place of the lent one. Assumes nothing.
-use mathlib.Core.Path.{_≡_, refl, sym, ap, subst, _∙_, fun-ext}
+use mathlib.Core.Path.{_≡_, sym, ap, subst, _∙_, fun-ext}
 use mathlib.Core.List.{List}
 use Prim.Native.Nat.{ℕ, _+_, _^_, _≤_}
 use native.Mathlib.Omega.{arith}
 use lib.IntN.{ℤ}
 use lib.ListN.{length}
-use Rattle.rounding.specs.Near.{top}
+use Rattle.merge_rules.specs.Near.{top}
 use Rattle.rounding.proofs.Laws.{top-above}
-use Rattle.curves.specs.declared.Curve.{Curve}
-use Rattle.curves.specs.declared.Curve.the-variants.{Straight, Table, Srgb}
-use Rattle.curves.specs.Srgb.{srgb}
-use Rattle.curves.specs.Curves.{curved, entries, There, Tones}
-use Rattle.pixel.specs.declared.Setting.{Setting}
-use Rattle.pixel.specs.Steps.{byCurve}
+use Rattle.merge_rules.specs.declared.Curve.{Curve}
+use Rattle.merge_rules.specs.declared.Curve.the-variants.{Straight, Table, Srgb}
+use Rattle.merge_rules.specs.Srgb.{srgb}
+use Rattle.merge_rules.specs.Curves.{curved, entries}
+use Rattle.curves.specs.Code.{Tones}
+use Rattle.merge_rules.specs.declared.Setting.{Setting}
+use Rattle.merge_rules.specs.Steps.{byCurve}
 use Rattle.pixel.proofs.Tones.{merged-alike}
-use Rattle.settings.specs.Tests.{Passed, Lending}
+use Rattle.settings.specs.Code.{Passed, Lending}
 use Rattle.settings.proofs.Laws.{lending}
-use Rattle.merge.specs.Picture.{pixelAt, mergedAt, mergedPicture, planes}
+use Rattle.merge_rules.specs.Picture.{pixelAt, mergedAt, mergedPicture, planes}
 
 pub straight-other : Straight ≡ Srgb → ⊥
 straight-other q = let z : _≡_ {A = ℕ} 0 1 = cc in omega arith

@@ -4,14 +4,16 @@ ghost use mathlib.Core.List.{_++_};
 ghost use Prim.Native.Nat.{_*_, _<_, _≤_};
 ghost use lib.ListN.{length, drop};
 ghost use Rattle.answers.specs.Verdict.{Meets, Tried};
-ghost use Rattle.curves.specs.declared.Curve.the-variants.{Straight, Srgb};
-ghost use Rattle.pixel.specs.Pixels.{single, samplesOf};
-ghost use Rattle.settings.specs.Tests.{samples, Passed, Lending};
-ghost use Rattle.merge.specs.Picture.{mergedAt, mergedPicture, merge};
+ghost use Rattle.merge_rules.specs.declared.Curve.the-variants.{Straight, Srgb};
+ghost use Rattle.merge_rules.specs.Pixels.{single};
+ghost use Rattle.pixel.specs.Code.{samplesOf};
+ghost use Rattle.merge_rules.specs.Settings.{samples};
+ghost use Rattle.settings.specs.Code.{Passed, Lending};
+ghost use Rattle.merge_rules.specs.Picture.{mergedAt, mergedPicture, merge};
 
 // Pixel p of the result, for one component.
 fn one_at(
-    s: pixel::Setting,
+    s: merge_rules::Setting,
     pixels: usize,
     base: &[i32],
     residual: &[i32],
@@ -25,14 +27,18 @@ fn one_at(
     let b = pixel::basis_one(s, table, base[p]);
     let lent = s.residual;
     match lent {
-        pixel::Residual::Absent => pixel::alone(s.rb, b),
-        pixel::Residual::Present => pixel::added(s.rb, b, pixel::scaled(s.rb, s.rr, residual[p])),
+        merge_rules::Residual::Absent => pixel::alone(s.rb, b),
+        merge_rules::Residual::Present => pixel::added(
+            s.rb,
+            b,
+            pixel::scaled(s.rb, s.rr, residual[p]),
+        ),
     }
 }
 
 // Pixel p of the result, for three components.
 fn three_at(
-    s: pixel::Setting,
+    s: merge_rules::Setting,
     pixels: usize,
     base: &[i32],
     residual: &[i32],
@@ -48,8 +54,8 @@ fn three_at(
     let b = pixel::basis_three(s, table, base[p], base[q], base[w]);
     let lent = s.residual;
     match lent {
-        pixel::Residual::Absent => pixel::alone_three(s.rb, b),
-        pixel::Residual::Present => {
+        merge_rules::Residual::Absent => pixel::alone_three(s.rb, b),
+        merge_rules::Residual::Present => {
             let r = pixel::residual_three(s, residual[p], residual[q], residual[w]);
             pixel::added_three(s.rb, b, r)
         }
@@ -58,7 +64,7 @@ fn three_at(
 
 // The picture of one component.
 fn fill_one(
-    s: pixel::Setting,
+    s: merge_rules::Setting,
     pixels: usize,
     base: &[i32],
     residual: &[i32],
@@ -79,7 +85,7 @@ fn fill_one(
 
 // The picture of three components, pixel by pixel.
 fn fill_three(
-    s: pixel::Setting,
+    s: merge_rules::Setting,
     pixels: usize,
     base: &[i32],
     residual: &[i32],
@@ -104,7 +110,7 @@ fn fill_three(
 
 // The picture, by a table that the curve can go by.
 fn fill_by(
-    s: pixel::Setting,
+    s: merge_rules::Setting,
     pixels: usize,
     base: &[i32],
     residual: &[i32],
@@ -124,7 +130,7 @@ fn fill_by(
 
 // The picture by the inverse sRGB table, which takes the place of the one that is not lent.
 fn fill_srgb(
-    s: pixel::Setting,
+    s: merge_rules::Setting,
     pixels: usize,
     base: &[i32],
     residual: &[i32],
@@ -141,7 +147,7 @@ fn fill_srgb(
 
 // The picture by the straight curve. A table of it is made where the picture has twice as many pixels, by which it pays (measured).
 fn fill_straight(
-    s: pixel::Setting,
+    s: merge_rules::Setting,
     pixels: usize,
     base: &[i32],
     residual: &[i32],
@@ -170,7 +176,7 @@ fn fill_straight(
 
 // The picture by whatever curve is set.
 fn fill(
-    s: pixel::Setting,
+    s: merge_rules::Setting,
     pixels: usize,
     base: &[i32],
     residual: &[i32],
@@ -183,15 +189,22 @@ fn fill(
 {
     let curve = s.curve;
     match curve {
-        curves::Curve::Straight => fill_straight(s, pixels, base, residual, table, destination),
-        curves::Curve::Table => fill_by(s, pixels, base, residual, table, destination),
-        curves::Curve::Srgb => fill_srgb(s, pixels, base, residual, table, destination),
+        merge_rules::Curve::Straight => fill_straight(
+            s,
+            pixels,
+            base,
+            residual,
+            table,
+            destination,
+        ),
+        merge_rules::Curve::Table => fill_by(s, pixels, base, residual, table, destination),
+        merge_rules::Curve::Srgb => fill_srgb(s, pixels, base, residual, table, destination),
     }
 }
 
 // The refusals in their order, then the picture. A refusal may leave anything in the destination.
 fn try_merge(
-    s: pixel::Setting,
+    s: merge_rules::Setting,
     pixels: usize,
     base: &[i32],
     residual: &[i32],
@@ -226,7 +239,7 @@ fn try_merge(
 
 // The merge: a number and a place, and the picture or zeros in the destination.
 pub fn merge(
-    s: pixel::Setting,
+    s: merge_rules::Setting,
     pixels: usize,
     base: &[i32],
     residual: &[i32],

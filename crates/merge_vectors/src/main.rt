@@ -21,35 +21,35 @@ fn weight(bytes: &[u8], at: usize, i: usize) -> i16 {
     v as i16
 }
 
-fn colour(n: usize) -> pixel::Colour {
+fn colour(n: usize) -> merge_rules::Colour {
     if n == 0 {
-        return pixel::Colour::Identity;
+        return merge_rules::Colour::Identity;
     }
-    pixel::Colour::Transform
+    merge_rules::Colour::Transform
 }
 
-fn curve(n: usize) -> curves::Curve {
+fn curve(n: usize) -> merge_rules::Curve {
     if n == 0 {
-        return curves::Curve::Straight;
+        return merge_rules::Curve::Straight;
     }
     if n == 1 {
-        return curves::Curve::Table;
+        return merge_rules::Curve::Table;
     }
-    curves::Curve::Srgb
+    merge_rules::Curve::Srgb
 }
 
-fn matrix(n: usize) -> pixel::Matrix {
+fn matrix(n: usize) -> merge_rules::Matrix {
     if n == 0 {
-        return pixel::Matrix::None;
+        return merge_rules::Matrix::None;
     }
-    pixel::Matrix::On
+    merge_rules::Matrix::On
 }
 
-fn residual(n: usize) -> pixel::Residual {
+fn residual(n: usize) -> merge_rules::Residual {
     if n == 0 {
-        return pixel::Residual::Absent;
+        return merge_rules::Residual::Absent;
     }
-    pixel::Residual::Present
+    merge_rules::Residual::Present
 }
 
 // The matrix.
@@ -74,9 +74,9 @@ fn number(bytes: &[u8], at: usize, i: usize) -> usize
     records::number_at(bytes, records::past(bytes.len(), at, 4 * i))
 }
 
-fn setting(bytes: &[u8], at: usize) -> pixel::Setting {
+fn setting(bytes: &[u8], at: usize) -> merge_rules::Setting {
     let w = weights(bytes, records::past(bytes.len(), at, 56));
-    pixel::Setting {
+    merge_rules::Setting {
         rb: number(bytes, at, 0) as u32,
         rh: number(bytes, at, 1) as u32,
         rr: number(bytes, at, 2) as u32,

@@ -13,9 +13,10 @@ use borrow.Author.Tests.{eqb-true, eqb-false, ltb-true, ltb-false}
 use Rattle.laws.specs.declared.Found.{Found}
 use Rattle.laws.specs.declared.Found.the-variants.{At, Nothing}
 use Rattle.laws.proofs.Choices.{either}
-use Rattle.numbers.specs.Numbers.{count, firstTwice, within, between, chosen, TwiceIn}
-use Rattle.numbers.proofs.Counts.{count-other}
-use Rattle.numbers.proofs.Smallest.{within-true, within-told, never-twice, smallest-twice, twice-is, twice-none}
+use Rattle.box_rules.specs.Numbers.{count, firstTwice, within, between}
+use Rattle.numbers.specs.Code.{chosen, TwiceIn}
+use Rattle.box_rules.proofs.Counts.{count-other}
+use Rattle.box_rules.proofs.Smallest.{within-true, within-told, never-twice, smallest-twice, twice-is, twice-none}
 
 -- ---- a pass that counts
 

@@ -1,4 +1,3 @@
-pub mod Counts
-pub mod Smallest
 pub mod Chosen
+pub mod Meeting
 pub mod Cases

@@ -7,8 +7,9 @@ ghost use mathlib.Core.Bool.{cond};
 ghost use Prim.Native.Nat.{ℕ, _+_, _≤_, _<_};
 ghost use lib.ListN.{length, take, drop};
 ghost use lib.Dec.{eqb};
-ghost use Rattle.numbers.specs.Numbers.{numbersFrom, count, least, firstTwice, between, chosen, TwiceIn};
-ghost use Rattle.numbers.specs.Numbers.{within as Numbers·within};
+ghost use Rattle.box_rules.specs.Numbers.{numbersFrom, count, least, firstTwice, between};
+ghost use Rattle.numbers.specs.Code.{chosen, TwiceIn};
+ghost use Rattle.box_rules.specs.Numbers.{within as Numbers·within};
 
 fn within(lo: usize, hi: usize, x: usize) -> bool
     ensures { λ r. ⌜ r ≡ Numbers·within lo hi x ⌝ }

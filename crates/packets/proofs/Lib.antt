@@ -1,5 +1,2 @@
-pub mod Runs
-pub mod Walking
 pub mod Quick
-pub mod Cases
-pub mod Written
+pub mod Meeting

@@ -6,11 +6,13 @@ use mathlib.Core.Bool.{true}
 use native.Mathlib.Omega.{arith}
 use lib.ListN.{length, drop}
 use borrow.Author.Tests.{le-ltb}
-use Rattle.packets.specs.declared.Step.the-variants.{Meet}
-use Rattle.packets.specs.Walk.{be16, be32, headAt, ones, barred, tagged, packetAt, wholeAt}
-use Rattle.packets.specs.Packets.{isMine, Tagged, Packed, MineHere}
-use Rattle.packets.proofs.Runs.{ones-on, ones-off}
-use Rattle.packets.proofs.Walking.{segment-at, mine-met, ending-meet}
+use Rattle.box_rules.specs.declared.Step.the-variants.{Meet}
+use Rattle.box_rules.specs.Walk.{be16, be32, headAt, ones, barred, tagged, packetAt, wholeAt}
+use Rattle.box_rules.specs.Packets.{isMine}
+use Rattle.packets.specs.Code.{Tagged, Packed, MineHere}
+use Rattle.box_rules.proofs.Runs.{ones-on, ones-off}
+use Rattle.box_rules.proofs.Walking.{segment-at, ending-meet}
+use Rattle.packets.proofs.Meeting.{mine-met}
 
 module _ (file : List ℕ) (at len : ℕ) (t : Tagged file at) (least : 18 ≤ len) (inside : at + 2 + len ≤ length file)
     (size : be16 file (at + 2) ≡ len) (stated : 8 ≤ be32 file (at + 12)) where

@@ -1,3 +1,1 @@
-pub mod Walk
-pub mod Packets
-pub mod Layout
+pub mod Code

@@ -1,39 +1,17 @@
 // The walk over a file's segments, and one packet (01, "Packets and boxes").
 use answers::Outcome;
 use answers::Refusal;
+use box_rules::Head;
+use box_rules::Step;
 ghost use mathlib.Core.Path.{_≡_};
 ghost use mathlib.Core.Bool.{true, false};
 ghost use Prim.Native.Nat.{_+_, _≤_, _<_};
 ghost use lib.ListN.{length, drop};
-ghost use Rattle.packets.specs.Walk.{ones, headAt, packetAt, wholeAt, sizedAt, stepAt, stepsFrom, walk, walkFrom, ending};
-ghost use Rattle.packets.specs.Walk.{be16 as Walk·be16, be32 as Walk·be32, barred as Walk·barred, tagged as Walk·tagged, begins as Walk·begins};
-ghost use Rattle.packets.specs.Packets.{isMine, NextIs, Tagged, Packed, MineHere};
+ghost use Rattle.box_rules.specs.Walk.{ones, headAt, packetAt, wholeAt, sizedAt, stepAt, stepsFrom, walk, walkFrom, ending};
+ghost use Rattle.box_rules.specs.Walk.{be16 as Walk·be16, be32 as Walk·be32, barred as Walk·barred, tagged as Walk·tagged, begins as Walk·begins};
+ghost use Rattle.box_rules.specs.Packets.{isMine};
+ghost use Rattle.packets.specs.Code.{NextIs, Tagged, Packed, MineHere};
 ghost use Rattle.answers.specs.Verdict.{refusal};
-
-// What the head of a packet states. Of the stated length of its box, `heading` bytes are the head of the box.
-pub struct Head {
-    pub instance: u16,
-    pub number: u32,
-    pub stated: u64,
-    pub heading: u64,
-    pub kind: u32,
-}
-
-// What stands at a position of the file.
-pub enum Step {
-    // The marker DA: the walk ends well.
-    End,
-    // A segment that is no packet, and where the next one begins.
-    Skip(usize),
-    // A packet, with where its payload stands and where the next segment begins.
-    Meet {
-        head: Head,
-        start: usize,
-        len: usize,
-        next: usize,
-    },
-    Broken(Refusal),
-}
 
 // The next packet of a type and instance, with where its payload stands and where to look on.
 pub enum Next {

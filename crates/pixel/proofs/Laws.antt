@@ -6,16 +6,16 @@ use native.Mathlib.Omega.{arith}
 use lib.Pow.{pow-pos, pow-mono, pow-add}
 use lib.IntN.{ℤ, pos, negℤ, natAbs, _+ℤ_, _-ℤ_, _*ℤ_}
 use Rattle.laws.proofs.Integers.{abs-prod-le, abs-sum, abs-neg, *ℤ-assoc}
-use Rattle.rounding.specs.Near.{nearest, clip, top}
+use Rattle.merge_rules.specs.Near.{nearest, clip, top}
 use Rattle.rounding.proofs.Laws.{nearest-scale, nearest-within}
-use Rattle.curves.specs.Curves.{curved}
-use Rattle.pixel.specs.declared.Setting.{Setting}
-use Rattle.pixel.specs.declared.Colour.{Colour}
-use Rattle.pixel.specs.declared.Colour.the-variants.{Identity, Transform}
-use Rattle.pixel.specs.declared.Matrix.{Matrix}
-use Rattle.pixel.specs.declared.Matrix.the-variants.{None, On}
-use Rattle.pixel.specs.Pixels.{Pixel, single, triple, each}
-use Rattle.pixel.specs.Steps.{transform, recolour, firstCentre, stepOne, stepTwo, matrixed, stepThree, scaled, stepFour, basis}
+use Rattle.merge_rules.specs.Curves.{curved}
+use Rattle.merge_rules.specs.declared.Setting.{Setting}
+use Rattle.merge_rules.specs.declared.Colour.{Colour}
+use Rattle.merge_rules.specs.declared.Colour.the-variants.{Identity, Transform}
+use Rattle.merge_rules.specs.declared.Matrix.{Matrix}
+use Rattle.merge_rules.specs.declared.Matrix.the-variants.{None, On}
+use Rattle.merge_rules.specs.Pixels.{Pixel, single, triple, each}
+use Rattle.merge_rules.specs.Steps.{transform, recolour, firstCentre, stepOne, stepTwo, matrixed, stepThree, scaled, stepFour, basis}
 
 -- ---- step 4's scaling, by sixteenths
 

@@ -1,15 +1,15 @@
 -- Two curves that give the same tones give the same pixels. Assumes nothing.
-use mathlib.Core.Path.{_≡_, ap, _∙_}
+use mathlib.Core.Path.{_≡_, ap}
 use mathlib.Core.List.{List}
 use Prim.Native.Nat.{ℕ, _≤_}
 use lib.IntN.{ℤ}
-use Rattle.rounding.specs.Near.{clip, top}
+use Rattle.merge_rules.specs.Near.{clip, top}
 use Rattle.rounding.proofs.Laws.{clip-small}
-use Rattle.curves.specs.declared.Curve.{Curve}
-use Rattle.curves.specs.Curves.{curved}
-use Rattle.pixel.specs.declared.Setting.{Setting}
-use Rattle.pixel.specs.Pixels.{Pixel, single, triple, each}
-use Rattle.pixel.specs.Steps.{recolour, firstCentre, stepOne, stepTwo, stepThree, stepFour, stepFive, basis, merged, byCurve}
+use Rattle.merge_rules.specs.declared.Curve.{Curve}
+use Rattle.merge_rules.specs.Curves.{curved}
+use Rattle.merge_rules.specs.declared.Setting.{Setting}
+use Rattle.merge_rules.specs.Pixels.{Pixel, single, triple, each}
+use Rattle.merge_rules.specs.Steps.{recolour, firstCentre, stepOne, stepTwo, stepThree, stepFour, stepFive, basis, merged, byCurve}
 
 -- what is done to numbers up to the top after the clip is done alike
 clipped-alike : (f g : ℕ → ℤ) (most : ℕ) → ((x : ℕ) → x ≤ most → f x ≡ g x) → (p : Pixel ℤ) → each f (each (λ v. clip v most) p) ≡ each g (each (λ v. clip v most) p)

@@ -1,21 +1,20 @@
 -- How the blocks that the code read come to the verdict on the plane. Assumes nothing.
 use mathlib.Core.Path.{_≡_, refl, sym, ap, subst, _∙_}
 use mathlib.Core.Bool.{Bool, true, false, cond}
-use mathlib.Core.List.{List, [], _++_}
+use mathlib.Core.List.{List, _++_}
 use Prim.Native.Nat.{ℕ, _≤_}
 use native.Mathlib.Omega.{arith}
 use lib.IntN.{ℤ, pos}
-use lib.ListN.{length, take, drop, replicate, take-append-drop}
+use lib.ListN.{length, take, drop, take-append-drop}
 use lib.Seq.{length-take-le}
 use Rattle.answers.specs.Verdict.{given, refused, refusal, outcomeOf, leaves, Tried}
 use Rattle.answers.specs.declared.Refusal.{Refusal}
 use Rattle.answers.specs.declared.Outcome.{Outcome}
 use Rattle.answers.specs.declared.Outcome.the-variants.{Given, Refused}
-use Rattle.bits.specs.Source.{source, onlyPadding}
+use Rattle.bit_rules.specs.Source.{onlyPadding}
 use Rattle.bits.specs.Code.{sourceOf}
 use Rattle.bits.specs.declared.Cursor.{Cursor}
-use Rattle.bits.proofs.Trip.{padding-left}
-use Rattle.planes.specs.Plane.{Plane, read, closed}
+use Rattle.plane_rules.specs.Plane.{Plane, read, closed}
 use Rattle.planes.specs.Code.{planeOf, Ran, Closes}
 use Rattle.planes.specs.declared.Blocks.{Blocks}
 use Rattle.planes.specs.declared.Blocks.the-variants.{Read, Broken}
@@ -60,8 +59,3 @@ closing {bytes} {n} {plane} {before} {after} {r} {o} a h c =
           ∙ ap (λ (d : List ℤ). take n after ++ d) (sym (a .kept))
           ∙ take-append-drop n after);
     })
-
--- a plane behind which only padding is left hands out its values
-pub closed-well : (values : List ℤ) (pad seen : ℕ) (p : Plane) → p ≡ read values (source (replicate pad true) [] seen) → closed p ≡ given values
-unfolding closed
-closed-well values pad seen p e = rw e (rw (padding-left pad seen))

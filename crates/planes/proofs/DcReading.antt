@@ -10,12 +10,12 @@ use lib.ListN.{length, getD, take, drop, set, length-set, drop-of-length-le}
 use lib.Seq.{drop-cons, drop-set-lt, take-suc-set}
 use Rattle.laws.proofs.Parts.{drop-later}
 use Rattle.answers.specs.Verdict.{refusal}
-use Rattle.bits.specs.Source.{start, got, stopped, takeBit}
+use Rattle.bit_rules.specs.Source.{start, got, stopped, takeBit}
 use Rattle.bits.specs.Code.{sourceOf, highs}
-use Rattle.bits.specs.declared.Stop.{Stop}
+use Rattle.bit_rules.specs.declared.Stop.{Stop}
 use Rattle.bits.specs.declared.Cursor.{Cursor}
-use Rattle.planes.specs.Plane.{Plane, read, broken, onto}
-use Rattle.planes.specs.Dc.{newDc, dcBlocks}
+use Rattle.plane_rules.specs.Plane.{Plane, read, broken, onto}
+use Rattle.plane_rules.specs.Dc.{newDc, dcBlocks}
 use Rattle.planes.specs.Code.{planeOf, Ran}
 use Rattle.planes.specs.declared.Blocks.the-variants.{Read, Broken}
 

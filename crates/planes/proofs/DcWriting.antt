@@ -18,7 +18,7 @@ use Rattle.laws.proofs.Integers.{bits-zero, abs-neg}
 use Rattle.bits.specs.Code.{Puts}
 use Rattle.bits.specs.declared.Putter.{Putter}
 use Rattle.bits.proofs.Putting.{Going, going-turn, going-end}
-use Rattle.planes.specs.Dc.{dcBit}
+use Rattle.plane_rules.specs.Dc.{dcBit}
 
 -- a remainder that is not 0 is the low bit
 odd-up : (n : ℕ) → not (eqb (n % 2) 0) ≡ eqb (n % 2) 1

@@ -1,11 +1,3 @@
-pub mod Ranges
 pub mod Closing
 pub mod DcReading
 pub mod DcWriting
-pub mod Levels
-pub mod DcTrip
-pub mod Cases
-pub mod ReadCases
-pub mod WriteCases
-pub mod AcTokens
-pub mod AcTrip

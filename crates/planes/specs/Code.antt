@@ -7,7 +7,7 @@ use lib.ListN.{length, getD, take, drop}
 use Rattle.bits.specs.Code.{sourceOf}
 use Rattle.answers.specs.Verdict.{outcomeOf}
 use Rattle.answers.specs.declared.Outcome.{Outcome}
-use Rattle.planes.specs.Plane.{Plane, read, broken, closed}
+use Rattle.plane_rules.specs.Plane.{Plane, read, broken, closed}
 use Rattle.planes.specs.declared.Blocks.{Blocks}
 use Rattle.planes.specs.declared.Blocks.the-variants.{Read, Broken}
 

@@ -1,5 +1,5 @@
 -- What each public call promises, with its parameters counted off by their places, and what follows for one input of 01's: a promise that says nothing gives neither. Assumes nothing.
-use mathlib.Core.Path.{_≡_, refl, ap, _∙_}
+use mathlib.Core.Path.{_≡_, ap, _∙_}
 use mathlib.Core.List.{List, [], _∷_, _++_}
 use Prim.Native.Nat.{ℕ}
 use lib.IntN.{pos}
@@ -14,21 +14,21 @@ use Rattle.laws.specs.First.{firstFail, orHere}
 use Rattle.answers.specs.declared.Answer.{Answer}
 use Rattle.answers.specs.Verdict.{Verdict, refused, refusal, answerOf, outcomeOf, leaves, Meets}
 use Rattle.levels.specs.Level.{inLevel, isDc, inside, firstOutside}
-use Rattle.packets.specs.Walk.{stepsIn, stepsFrom, begins, walk, ending}
-use Rattle.packets.specs.Packets.{packetsIn, packets}
-use Rattle.boxes.specs.Box.{boxBytes}
-use Rattle.listing_text.specs.Text.{line, lines, header, answer, listing, decIn, dec, listPackets}
-use Rattle.codes.specs.Table.{table, codeCount, kraft, holds, distinct, goodTable}
-use Rattle.planes.specs.Dc.{readDc, writeDc}
-use Rattle.planes.specs.AcRead.{readAc}
-use Rattle.planes.specs.AcWrite.{writeAc}
-use Rattle.kernel.specs.Samples.{blockSamples}
-use Rattle.transform.specs.Picture.{picture}
-use Rattle.transform.specs.Call.{isQuantiser, firstBadQuantiser, inverseTransform}
-use Rattle.curves.specs.Curves.{entries}
-use Rattle.settings.specs.Tests.{inRanges, plain, srgbAllowed, residualCount, lengthsRight, entryRight}
-use Rattle.merge.specs.Picture.{merge}
-use Rattle.reader_c.specs.Merge.{colourOf, curveOf, matrixOf, residualOf, known, matrixCount, weightsOf, settingOf, settingNumber, mergeCall}
+use Rattle.box_rules.specs.Walk.{stepsIn, stepsFrom, begins, walk, ending}
+use Rattle.box_rules.specs.Packets.{packetsIn, packets}
+use Rattle.box_rules.specs.Box.{boxBytes}
+use Rattle.box_rules.specs.Text.{line, lines, header, answer, listing, decIn, dec, listPackets}
+use Rattle.bit_rules.specs.Table.{table, codeCount, kraft, holds, distinct, goodTable}
+use Rattle.plane_rules.specs.Dc.{readDc, writeDc}
+use Rattle.plane_rules.specs.AcRead.{readAc}
+use Rattle.plane_rules.specs.AcWrite.{writeAc}
+use Rattle.transform_rules.specs.Samples.{blockSamples}
+use Rattle.transform_rules.specs.Picture.{picture}
+use Rattle.transform_rules.specs.Call.{isQuantiser, firstBadQuantiser, inverseTransform}
+use Rattle.merge_rules.specs.Curves.{entries}
+use Rattle.merge_rules.specs.Settings.{inRanges, plain, srgbAllowed, residualCount, lengthsRight, entryRight}
+use Rattle.merge_rules.specs.Picture.{merge}
+use Rattle.merge_rules.specs.Call.{colourOf, curveOf, matrixOf, residualOf, known, matrixCount, weightsOf, settingOf, settingNumber, mergeCall}
 use Rattle.reader_c.proofs.xt_box_bytes as box-call
 use Rattle.reader_c.proofs.xt_box_bytes.Kinds as box-kinds
 use Rattle.reader_c.proofs.xt_box_bytes.Reads as box-reads

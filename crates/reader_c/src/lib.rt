@@ -4,14 +4,14 @@ ghost use mathlib.Core.Path.{_≡_};
 ghost use lib.IntN.{pos};
 ghost use lib.ListN.{length};
 ghost use Rattle.answers.specs.Verdict.{Meets};
-ghost use Rattle.boxes.specs.Box.{boxBytes};
-ghost use Rattle.codes.specs.Table.{table};
-ghost use Rattle.planes.specs.Dc.{readDc, writeDc};
-ghost use Rattle.planes.specs.AcRead.{readAc};
-ghost use Rattle.planes.specs.AcWrite.{writeAc};
-ghost use Rattle.listing_text.specs.Text.{listPackets};
-ghost use Rattle.reader_c.specs.Merge.{colourOf, curveOf, matrixOf, residualOf, known, matrixCount, weightsOf, settingOf, settingNumber, mergeCall};
-ghost use Rattle.transform.specs.Call.{inverseTransform};
+ghost use Rattle.box_rules.specs.Box.{boxBytes};
+ghost use Rattle.bit_rules.specs.Table.{table};
+ghost use Rattle.plane_rules.specs.Dc.{readDc, writeDc};
+ghost use Rattle.plane_rules.specs.AcRead.{readAc};
+ghost use Rattle.plane_rules.specs.AcWrite.{writeAc};
+ghost use Rattle.box_rules.specs.Text.{listPackets};
+ghost use Rattle.merge_rules.specs.Call.{colourOf, curveOf, matrixOf, residualOf, known, matrixCount, weightsOf, settingOf, settingNumber, mergeCall};
+ghost use Rattle.transform_rules.specs.Call.{inverseTransform};
 
 // One box, assembled from its packets.
 #[no_mangle]
@@ -127,41 +127,41 @@ pub extern "C" fn xt_write_ac_plane(
 }
 
 // 0 identity, 1 the transform.
-fn colour(n: u32) -> pixel::Colour
+fn colour(n: u32) -> merge_rules::Colour
     ensures { λ r. ⌜ r ≡ colourOf n ⌝ }
 {
     match n {
-        1 => pixel::Colour::Transform,
-        _ => pixel::Colour::Identity,
+        1 => merge_rules::Colour::Transform,
+        _ => merge_rules::Colour::Identity,
     }
 }
 
 // 0 straight, 1 the lent table, 2 inverse sRGB.
-fn curve_of(n: u32) -> curves::Curve
+fn curve_of(n: u32) -> merge_rules::Curve
     ensures { λ r. ⌜ r ≡ curveOf n ⌝ }
 {
     match n {
-        1 => curves::Curve::Table,
-        2 => curves::Curve::Srgb,
-        _ => curves::Curve::Straight,
+        1 => merge_rules::Curve::Table,
+        2 => merge_rules::Curve::Srgb,
+        _ => merge_rules::Curve::Straight,
     }
 }
 
-fn matrix_of(n: u32) -> pixel::Matrix
+fn matrix_of(n: u32) -> merge_rules::Matrix
     ensures { λ r. ⌜ r ≡ matrixOf n ⌝ }
 {
     match n {
-        1 => pixel::Matrix::On,
-        _ => pixel::Matrix::None,
+        1 => merge_rules::Matrix::On,
+        _ => merge_rules::Matrix::None,
     }
 }
 
-fn residual_of(n: u32) -> pixel::Residual
+fn residual_of(n: u32) -> merge_rules::Residual
     ensures { λ r. ⌜ r ≡ residualOf n ⌝ }
 {
     match n {
-        1 => pixel::Residual::Present,
-        _ => pixel::Residual::Absent,
+        1 => merge_rules::Residual::Present,
+        _ => merge_rules::Residual::Absent,
     }
 }
 
@@ -185,12 +185,12 @@ fn known(base: u32, curve: u32, matrix: u32, residual: u32, transform: u32) -> b
 }
 
 // How many numbers a matrix has.
-fn matrix_count(m: pixel::Matrix) -> usize
+fn matrix_count(m: merge_rules::Matrix) -> usize
     ensures { λ r. ⌜ r ≡ matrixCount m ⌝ }
 {
     match m {
-        pixel::Matrix::On => 9,
-        pixel::Matrix::None => 0,
+        merge_rules::Matrix::On => 9,
+        merge_rules::Matrix::None => 0,
     }
 }
 
@@ -215,7 +215,7 @@ fn weights_of(matrix: &[i16]) -> [i16; 9]
 }
 
 // 20 or 21 by what only this call tests, or 0.
-fn setting_number(named: bool, s: pixel::Setting, pixels: usize, matrix: &[i16]) -> u32
+fn setting_number(named: bool, s: merge_rules::Setting, pixels: usize, matrix: &[i16]) -> u32
     ensures { λ r. ⌜ r ≡ settingNumber named s pixels (now (matrix .entry)) ⌝ }
 {
     if !named {
@@ -240,7 +240,7 @@ fn setting_number(named: bool, s: pixel::Setting, pixels: usize, matrix: &[i16])
 // The merge of a setting that was made, or its refusal.
 fn merge_or_not(
     named: bool,
-    s: pixel::Setting,
+    s: merge_rules::Setting,
     pixels: usize,
     base: &[i32],
     residual: &[i32],
@@ -280,7 +280,7 @@ pub extern "C" fn xt_merge(
 ) -> u32
     ensures { λ r. ⌜ Meets 0 (mergeCall (known tint curve matrixed added retint) (settingOf rb rh rr components tint curve matrixed (now (matrix .entry)) added retint) pixels (now (base .entry)) (now (residual .entry)) (now (table .entry)) (now (matrix .entry)) (length (now (destination .entry)))) (now (destination .entry)) (now (destination .exit)) (record { number = r; place = now (place .exit) }) ⌝ }
 {
-    let s = pixel::Setting {
+    let s = merge_rules::Setting {
         rb,
         rh,
         rr,

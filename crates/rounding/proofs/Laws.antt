@@ -1,5 +1,5 @@
 -- Laws of rounding, clipping and weighing, for any numbers. Assumes nothing.
-use borrow.Author.Tests.{ltb-true, ltb-false, le-ltb}
+use borrow.Author.Tests.{le-ltb}
 use mathlib.Core.Path.{_≡_, refl, sym, ap, subst, _∙_}
 use mathlib.Core.Bool.{Bool, true, false}
 use Prim.Native.Nat.{ℕ, _+_, _*_, _/_, _%_, _^_, _≤_, _<_, min, zero-le}
@@ -12,7 +12,7 @@ use lib.Signed.{ltZ, nonNeg, shrZ}
 use Rattle.laws.proofs.Integers.{up, dn, sum, eqZ, pos-up, pos-dn, neg-up, neg-dn, abs, one, abs-sum, abs-neg, abs-prod-le, ≤-to, <-to, ≤-of, <-of, floor-low, floor-high, floor-abs}
 use Rattle.laws.proofs.Floors.{times, floor-is, floor-scale}
 use Rattle.laws.proofs.Lists.{each}
-use Rattle.rounding.specs.Near.{nearest, clip, row}
+use Rattle.merge_rules.specs.Near.{nearest, clip, row}
 
 -- ---- nearest
 

@@ -12,12 +12,14 @@ use lib.IntN.{ℤ}
 use lib.ListN.{length}
 use Rattle.laws.specs.Index.{every}
 use Rattle.laws.proofs.Lists.{every-first, every-rest}
-use Rattle.curves.specs.declared.Curve.{Curve}
-use Rattle.curves.specs.declared.Curve.the-variants.{Srgb}
-use Rattle.curves.specs.Curves.{entries, There}
-use Rattle.pixel.specs.declared.Setting.{Setting}
-use Rattle.pixel.specs.Steps.{byCurve}
-use Rattle.settings.specs.Tests.{oneOrThree, inRanges, srgbAllowed, isSrgb, samples, residualCount, lengthsRight, Ranged, Passed, Lending}
+use Rattle.merge_rules.specs.declared.Curve.{Curve}
+use Rattle.merge_rules.specs.declared.Curve.the-variants.{Srgb}
+use Rattle.merge_rules.specs.Curves.{entries}
+use Rattle.curves.specs.Code.{There}
+use Rattle.merge_rules.specs.declared.Setting.{Setting}
+use Rattle.merge_rules.specs.Steps.{byCurve}
+use Rattle.merge_rules.specs.Settings.{oneOrThree, inRanges, srgbAllowed, isSrgb, samples, residualCount, lengthsRight}
+use Rattle.settings.specs.Code.{Ranged, Passed, Lending}
 
 -- one component or three
 pub one-or-three : (c : ℕ) → oneOrThree c ≡ true → (c ≡ 1) ⊎ (c ≡ 3)

@@ -3,37 +3,38 @@ ghost use mathlib.Core.Path.{_≡_};
 ghost use Prim.Native.Nat.{_≤_};
 ghost use lib.ListN.{length};
 ghost use Rattle.laws.specs.First.{firstFail};
-ghost use Rattle.curves.specs.Curves.{entries};
-ghost use Rattle.settings.specs.Tests.{oneOrThree, inRanges, isTransform, isOn, isSrgb, plain, srgbAllowed, residualCount, lengthsRight, entryRight, Ranged};
+ghost use Rattle.merge_rules.specs.Curves.{entries};
+ghost use Rattle.merge_rules.specs.Settings.{oneOrThree, inRanges, isTransform, isOn, isSrgb, plain, srgbAllowed, residualCount, lengthsRight, entryRight};
+ghost use Rattle.settings.specs.Code.{Ranged};
 
 // Whether the transform is set.
-fn is_transform(how: pixel::Colour) -> bool
+fn is_transform(how: merge_rules::Colour) -> bool
     ensures { λ r. ⌜ r ≡ isTransform how ⌝ }
 {
     match how {
-        pixel::Colour::Identity => false,
-        pixel::Colour::Transform => true,
+        merge_rules::Colour::Identity => false,
+        merge_rules::Colour::Transform => true,
     }
 }
 
 // Whether the matrix is on.
-fn is_on(matrix: pixel::Matrix) -> bool
+fn is_on(matrix: merge_rules::Matrix) -> bool
     ensures { λ r. ⌜ r ≡ isOn matrix ⌝ }
 {
     match matrix {
-        pixel::Matrix::None => false,
-        pixel::Matrix::On => true,
+        merge_rules::Matrix::None => false,
+        merge_rules::Matrix::On => true,
     }
 }
 
 // Whether the curve is the inverse sRGB table.
-fn is_srgb(curve: curves::Curve) -> bool
+fn is_srgb(curve: merge_rules::Curve) -> bool
     ensures { λ r. ⌜ r ≡ isSrgb curve ⌝ }
 {
     match curve {
-        curves::Curve::Straight => false,
-        curves::Curve::Table => false,
-        curves::Curve::Srgb => true,
+        merge_rules::Curve::Straight => false,
+        merge_rules::Curve::Table => false,
+        merge_rules::Curve::Srgb => true,
     }
 }
 
@@ -48,7 +49,7 @@ fn one_or_three(components: u32) -> bool
 }
 
 // 20: the ranges of what is set.
-pub fn in_ranges(s: pixel::Setting, pixels: usize) -> bool
+pub fn in_ranges(s: merge_rules::Setting, pixels: usize) -> bool
     ensures { λ r. ⌜ r ≡ inRanges s pixels ⌝ }
 {
     if s.rb < 1 {
@@ -70,7 +71,7 @@ pub fn in_ranges(s: pixel::Setting, pixels: usize) -> bool
 }
 
 // 20: one component has no transform and no matrix.
-pub fn plain(s: pixel::Setting) -> bool
+pub fn plain(s: merge_rules::Setting) -> bool
     ensures { λ r. ⌜ r ≡ plain s ⌝ }
 {
     if s.components != 1 {
@@ -89,7 +90,7 @@ pub fn plain(s: pixel::Setting) -> bool
 }
 
 // 20: the inverse sRGB table only at Rh 0 and Rb 8.
-pub fn srgb_allowed(s: pixel::Setting) -> bool
+pub fn srgb_allowed(s: merge_rules::Setting) -> bool
     ensures { λ r. ⌜ r ≡ srgbAllowed s ⌝ }
 {
     let curve = s.curve;
@@ -103,30 +104,30 @@ pub fn srgb_allowed(s: pixel::Setting) -> bool
 }
 
 // How many residual samples must be lent, of a picture of so many.
-fn residual_count(residual: pixel::Residual, count: usize) -> usize
+fn residual_count(residual: merge_rules::Residual, count: usize) -> usize
     ensures { λ r. ⌜ r ≡ residualCount residual count ⌝ }
 {
     match residual {
-        pixel::Residual::Absent => 0,
-        pixel::Residual::Present => count,
+        merge_rules::Residual::Absent => 0,
+        merge_rules::Residual::Present => count,
     }
 }
 
 // How many entries a lent table must have.
-fn table_count(curve: curves::Curve, rh: u32) -> usize
+fn table_count(curve: merge_rules::Curve, rh: u32) -> usize
     requires { ⌜ rh ≤ 4 ⌝ }
     ensures { λ r. ⌜ r ≡ entries curve rh ⌝ }
 {
     match curve {
-        curves::Curve::Straight => 0,
-        curves::Curve::Table => rounding::power(8 + rh) as usize,
-        curves::Curve::Srgb => 0,
+        merge_rules::Curve::Straight => 0,
+        merge_rules::Curve::Table => rounding::power(8 + rh) as usize,
+        merge_rules::Curve::Srgb => 0,
     }
 }
 
 // 21: the lengths of what is lent.
 pub fn lengths_right(
-    s: pixel::Setting,
+    s: merge_rules::Setting,
     pixels: usize,
     base: &[i32],
     residual: &[i32],

@@ -1,4 +1,2 @@
 pub mod Tables
-pub mod Lengths
 pub mod Refusals
-pub mod Cases

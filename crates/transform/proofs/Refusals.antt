@@ -18,9 +18,9 @@ use Rattle.answers.specs.Verdict.{Verdict, refused, refusal, given}
 use Rattle.levels.specs.Level.{firstOutside}
 use Rattle.levels.specs.declared.Part.the-variants.{Whole}
 use Rattle.levels.proofs.Ranges.{all-small}
-use Rattle.transform.specs.Picture.{picture, InRange}
-use Rattle.transform.specs.Call.{isQuantiser, firstBadQuantiser, inverseTransform}
-use Rattle.transform.proofs.Lengths.{picture-length}
+use Rattle.transform_rules.specs.Picture.{picture, InRange}
+use Rattle.transform_rules.specs.Call.{isQuantiser, firstBadQuantiser, inverseTransform}
+use Rattle.transform_rules.proofs.Lengths.{picture-length}
 
 module _ (refinement blocks : ℕ) (values : List ℤ) (quantisers : List ℕ) (room : ℕ) where
   abbrev verdict : Verdict ℤ

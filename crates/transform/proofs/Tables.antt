@@ -9,8 +9,8 @@ use lib.IntN.{pos, natAbs}
 use lib.ListN.{length, getD}
 use Rattle.laws.specs.Index.{tab}
 use Rattle.laws.proofs.Lists.{length-tab, getD-tab, allBelow, each}
-use Rattle.transform.specs.Zigzag.{firstRow, lastRow, placesBefore, zigzag, zigzagAt, zigzagOrder}
-use Rattle.transform.specs.Picture.{centre}
+use Rattle.transform_rules.specs.Zigzag.{firstRow, lastRow, placesBefore, zigzag, zigzagAt, zigzagOrder}
+use Rattle.transform_rules.specs.Picture.{centre}
 
 -- ---- the zigzag order
 

@@ -14,12 +14,14 @@ use Rattle.laws.specs.declared.Found.the-variants.{At, Nothing}
 use Rattle.laws.specs.First.{firstFail}
 use Rattle.laws.proofs.First.{first-none, first-at}
 use Rattle.laws.proofs.Choices.{either}
-use Rattle.packets.specs.declared.Head.{Head}
-use Rattle.packets.specs.Packets.{Packet, packet, mineFrom, Met}
-use Rattle.numbers.specs.Numbers.{numbers, numbersFrom, count, missingFrom}
-use Rattle.numbers.proofs.Counts.{numbers-met, numbers-append, count-append, count-none, count-here, count-other}
-use Rattle.numbers.proofs.Smallest.{missing-is, missing-more-than}
-use Rattle.windows.specs.Places.{Stands, Located, marked}
+use Rattle.box_rules.specs.declared.Head.{Head}
+use Rattle.box_rules.specs.Packets.{Packet, packet, mineFrom}
+use Rattle.packets.specs.Code.{Met}
+use Rattle.box_rules.specs.Numbers.{numbers, numbersFrom, count, missingFrom}
+use Rattle.numbers.proofs.Meeting.{numbers-met}
+use Rattle.box_rules.proofs.Counts.{numbers-append, count-append, count-none, count-here, count-other}
+use Rattle.box_rules.proofs.Smallest.{missing-is, missing-more-than}
+use Rattle.windows.specs.Code.{Stands, Located, marked}
 
 -- ---- a store
 

@@ -6,8 +6,8 @@ ghost use Prim.Native.Nat.{min, _+_, _≤_, _<_};
 ghost use lib.ListN.{length, getD, replicate};
 ghost use lib.Dec.{ltb};
 ghost use Rattle.laws.specs.First.{firstFail};
-ghost use Rattle.numbers.specs.Numbers.{numbersFrom, missingFrom};
-ghost use Rattle.windows.specs.Places.{Located, marked};
+ghost use Rattle.box_rules.specs.Numbers.{numbersFrom, missingFrom};
+ghost use Rattle.windows.specs.Code.{Located, marked};
 
 fn clear_places(places: &mut [usize])
     ensures { λ r. ⌜ now (places .exit) ≡ replicate (length (now (places .entry))) 0 ⌝ }

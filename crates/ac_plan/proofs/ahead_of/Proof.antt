@@ -8,7 +8,7 @@ use lib.ListN.{length, getD}
 use mir.Syntax.{w32}
 use mir.Val.{ofZ}
 use Rattle.laws.proofs.Integers.{back}
-use Rattle.planes.specs.AcWrite.{kindOf}
+use Rattle.plane_rules.specs.AcWrite.{kindOf}
 use Rattle.ac_plan.specs.Plan.{stillIs}
 use Rattle.ac_plan.proofs.KindTests.{is-one, is-minus-one}
 use Rattle.ac_plan.proofs.Looking.{Looked, look-start, look-end, look-on, look-new}

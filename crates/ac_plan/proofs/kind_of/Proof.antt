@@ -5,7 +5,7 @@ use mir.Val.{ofZ}
 use mir.Facts.{toZ-ofZ}
 use Rattle.laws.proofs.Integers.{half-fits}
 use Rattle.planes.proofs.DcWriting.{rest-fits}
-use Rattle.planes.specs.AcWrite.{kindOf}
+use Rattle.plane_rules.specs.AcWrite.{kindOf}
 use Rattle.ac_plan.specs.Plan.{kindIs}
 use Rattle.ac_plan.proofs.KindTests.{is-zero, is-one, is-minus-one, kept}
 use borrow.Author.Needs.{needs}

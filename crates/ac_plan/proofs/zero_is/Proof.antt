@@ -3,7 +3,7 @@ use mathlib.Core.Path.{refl, ap}
 use native.Mathlib.Omega.{arith}
 use mir.Syntax.{w32}
 use mir.Val.{ofZ}
-use Rattle.planes.specs.AcWrite.{kindOf}
+use Rattle.plane_rules.specs.AcWrite.{kindOf}
 use Rattle.ac_plan.proofs.KindTests.{is-zero, not-zero}
 use Rattle.ac_plan.proofs.zero_is.Statement.{statement}
 use Rattle.ac_plan.proofs.zero_is.Tie as tie

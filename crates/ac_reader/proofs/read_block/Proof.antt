@@ -3,10 +3,10 @@ use mathlib.Core.Path.{_≡_, sym, ap, _∙_}
 use mathlib.Core.Option.{some}
 use Prim.Native.Nat.{_-_}
 use lib.ListN.{length}
-use Rattle.bits.specs.Source.{got}
+use Rattle.bit_rules.specs.Source.{got}
 use Rattle.bits.specs.Code.{sourceOf}
-use Rattle.codes.specs.Table.{table}
-use Rattle.planes.specs.AcRead.{taskAt}
+use Rattle.bit_rules.specs.Table.{table}
+use Rattle.plane_rules.specs.AcRead.{taskAt}
 use Rattle.ac_tasks.specs.Code.{taskOf, openOf, toldOf, blockOf}
 use Rattle.ac_reader.specs.Walk.{At, Carries, Closes, Steps}
 use Rattle.ac_reader.specs.declared.Step.the-variants.{On, Out}

@@ -3,7 +3,7 @@ use mathlib.Core.Path.{_≡_, sym, ap, _∙_}
 use Prim.Native.Nat.{_+_, _-_, _≤_}
 use lib.ListN.{length}
 use borrow.Rule.Slice.PartMut.{mid-len}
-use Rattle.codes.specs.Table.{table}
+use Rattle.bit_rules.specs.Table.{table}
 use Rattle.ac_tasks.specs.Code.{blockOf}
 use Rattle.ac_reader.proofs.Plane.{Behind, behind-none, behind-all, behind-stopped, behind-one, small-part}
 use native.Mathlib.Omega.{arith}

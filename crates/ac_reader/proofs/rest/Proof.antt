@@ -7,7 +7,7 @@ use lib.ListN.{length, getD}
 use mir.Syntax.{w32}
 use mir.Val.{toZ, ofZ}
 use Rattle.laws.proofs.Integers.{back}
-use Rattle.planes.specs.Task as task
+use Rattle.plane_rules.specs.Task as task
 use Rattle.ac_reader.specs.Walk.{fixedOf, Carries}
 use Rattle.ac_reader.proofs.Positions.{carries-none, carries-end, carries-zero, carries-lost, carries-fixed}
 use native.Mathlib.Omega.{arith}

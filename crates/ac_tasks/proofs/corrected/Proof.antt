@@ -4,8 +4,8 @@ use lib.IntN.{ℤ, pos, negℤ, _+ℤ_, _-ℤ_, _*ℤ_}
 use mir.Syntax.{w32}
 use mir.Val.{SFits, toZ}
 use mir.Facts.{toZ-pos, toZ-ofZ}
-use Rattle.bits.specs.Digits.{bin}
-use Rattle.codes.proofs.Reading.{bin-small}
+use Rattle.bit_rules.specs.Digits.{bin}
+use Rattle.bit_rules.proofs.Digits.{bin-small}
 use Rattle.laws.proofs.Integers.{fit, abs-prod, abs-sum, abs-neg}
 use Rattle.ac_tasks.proofs.Numbers.{down, upward}
 use native.Mathlib.Omega.{arith}

@@ -1,7 +1,7 @@
 -- `ac_tasks::end_run` meets its contract. Assumes nothing.
 use mathlib.Core.Path.{sym, ap, _∙_}
 use lib.Pow.{pow-pos}
-use Rattle.planes.specs.AcRead.{endRun}
+use Rattle.plane_rules.specs.AcRead.{endRun}
 use Rattle.ac_tasks.specs.Code.{numberOf, toldOf}
 use Rattle.ac_tasks.proofs.Numbers.{moved-one, power-small}
 use Rattle.ac_tasks.proofs.Tasks.{run-fits, run-past}

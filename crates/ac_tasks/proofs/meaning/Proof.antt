@@ -2,7 +2,7 @@
 use mathlib.Core.Path.{sym, ap, _∙_}
 use borrow.Author.Tests.{lt-ltb, le-ltb}
 use Rattle.bits.specs.Code.{takenOf}
-use Rattle.planes.specs.AcRead.{meaning}
+use Rattle.plane_rules.specs.AcRead.{meaning}
 use Rattle.ac_tasks.specs.Code.{toldOf}
 use Rattle.ac_tasks.proofs.Tasks.{low-bits, low-one, unused}
 use borrow.Author.Needs.{needs}

@@ -1,7 +1,7 @@
 -- `ac_tasks::take_number` meets its contract: what is left to read gives what the whole gives. Assumes nothing.
 use mathlib.Core.Path.{sym, ap, _∙_}
 use Rattle.bits.specs.Code.{takenOf}
-use Rattle.codes.proofs.Reading.{bin-small}
+use Rattle.bit_rules.proofs.Digits.{bin-small}
 use Rattle.ac_tasks.proofs.Numbers.{Now, now-first, now-small, now-end, now-stopped, now-turn}
 use native.Mathlib.Omega.{arith}
 use borrow.Author.Needs.{needs}

@@ -1,7 +1,7 @@
 -- `ac_tasks::task_at` meets its contract. Assumes nothing.
 use mathlib.Core.Path.{sym, ap, _∙_}
-use Rattle.codes.specs.Read.{codedOf}
-use Rattle.planes.specs.AcRead.{taskAt}
+use Rattle.codes.specs.Code.{codedOf}
+use Rattle.plane_rules.specs.AcRead.{taskAt}
 use Rattle.ac_tasks.specs.Code.{toldOf}
 use borrow.Author.Needs.{needs}
 use Rattle.ac_tasks.proofs.task_at.Statement.{statement}

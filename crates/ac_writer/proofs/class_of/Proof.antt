@@ -1,7 +1,7 @@
 -- `ac_writer::class_of` meets its contract: the halvings made, and those still to make, are those of the whole. Assumes nothing.
 use mathlib.Core.Path.{_≡_}
 use Prim.Native.Nat.{_+_, _-_, _≤_}
-use Rattle.planes.specs.AcWrite.{order, class}
+use Rattle.plane_rules.specs.AcWrite.{order, class}
 use Rattle.ac_writer.proofs.Classes.{class-turn, class-here, class-end}
 use native.Mathlib.Omega.{arith}
 use borrow.Author.Needs.{needs}

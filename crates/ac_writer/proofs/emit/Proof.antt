@@ -1,6 +1,6 @@
 -- `ac_writer::emit` meets its contract. Assumes nothing.
 use Prim.Native.Nat.{_+_, _*_}
-use Rattle.planes.specs.AcWrite as written
+use Rattle.plane_rules.specs.AcWrite as written
 use Rattle.ac_writer.proofs.Tokens.{told-then}
 use Rattle.ac_writer.proofs.Lengths.{code-bits}
 use Rattle.ac_writer.proofs.Positions.{short-leave, short-set, short-ended}

@@ -2,8 +2,8 @@
 use mathlib.Core.Path.{sym, _∙_}
 use Rattle.answers.proofs.Laws.{tried-refused, fitting-given, fitting-short}
 use Rattle.bits.proofs.Putting.{all-counted, all-stored}
-use Rattle.codes.specs.Table.{table}
-use Rattle.planes.specs.AcWrite.{acBytes}
+use Rattle.bit_rules.specs.Table.{table}
+use Rattle.plane_rules.specs.AcWrite.{acBytes}
 use Rattle.ac_writer.proofs.Lengths.{plane-length}
 use native.Mathlib.Omega.{arith}
 use borrow.Author.Needs.{needs}

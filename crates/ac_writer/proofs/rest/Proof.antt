@@ -6,8 +6,8 @@ use lib.IntN.{pos}
 use lib.ListN.{length, getD}
 use mir.Syntax.{w32}
 use Rattle.laws.proofs.Integers.{back}
-use Rattle.planes.specs.Task as task
-use Rattle.planes.specs.AcWrite.{kindOf}
+use Rattle.plane_rules.specs.Task as task
+use Rattle.plane_rules.specs.AcWrite.{kindOf}
 use Rattle.ac_plan.specs.Plan.{kindIs}
 use Rattle.ac_writer.specs.Telling.{Carries}
 use Rattle.ac_writer.proofs.Positions.{carries-none, carries-near, carries-kept, carries-still, carries-fresh}

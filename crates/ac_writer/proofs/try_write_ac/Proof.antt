@@ -4,10 +4,10 @@ use mathlib.Core.Bool.{true}
 use borrow.Author.Tests.{not-true, not-false, eq-eqb, ne-eqb}
 use Rattle.laws.specs.Index.{every}
 use Rattle.answers.proofs.Laws.{tried-refused}
-use Rattle.codes.specs.Table.{table, goodTable}
-use Rattle.planes.specs.Plane.{writable}
-use Rattle.planes.specs.AcWrite.{writeAc}
-use Rattle.planes.proofs.Ranges.{Ranged, ranged}
+use Rattle.bit_rules.specs.Table.{table, goodTable}
+use Rattle.plane_rules.specs.Plane.{writable}
+use Rattle.plane_rules.specs.AcWrite.{writeAc}
+use Rattle.plane_rules.proofs.Ranges.{Ranged, ranged}
 use native.Mathlib.Omega.{arith}
 use borrow.Author.Needs.{needs}
 use Rattle.ac_writer.proofs.try_write_ac.Statement.{statement}

@@ -1,7 +1,7 @@
 -- `bits::fill_up` meets its contract: what is left to fill comes to the same byte. Assumes nothing.
 use mathlib.Core.Path.{_≡_, refl, _∙_}
 use Prim.Native.Nat.{_-_, _^_, _≤_, _<_}
-use Rattle.bits.specs.Pack.{padded}
+use Rattle.bit_rules.specs.Pack.{padded}
 use Rattle.bits.proofs.Putting.{padded-on, padded-end, room-on, held-byte}
 use borrow.Author.Needs.{needs}
 use native.Mathlib.Omega.{arith}

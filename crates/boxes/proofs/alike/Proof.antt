@@ -1,5 +1,5 @@
 -- `boxes::alike` meets its contract.
-use Rattle.boxes.specs.Box.{alike}
+use Rattle.box_rules.specs.Box.{alike}
 use borrow.Author.Tests.{eq-eqb, ne-eqb, not-true, not-false}
 use Rattle.boxes.proofs.alike.Statement.{statement}
 use Rattle.boxes.proofs.alike.Tie as tie

@@ -1,5 +1,5 @@
 -- `boxes::contents` meets its contract.
-use Rattle.boxes.specs.Box.{contents}
+use Rattle.box_rules.specs.Box.{contents}
 use native.Mathlib.Omega.{arith}
 use Rattle.boxes.proofs.contents.Statement.{statement}
 use Rattle.boxes.proofs.contents.Tie as tie

@@ -1,9 +1,9 @@
 -- `boxes::put_in_order` meets its contract: what is left to write here is the whole at the front.
-use Rattle.packets.proofs.Walking.{met, gone}
+use Rattle.packets.proofs.Meeting.{met, gone}
 use Rattle.boxes.proofs.Puts.{Writing, write-start, write-done, payload-turn, payloads-none}
-use Rattle.boxes.specs.Order.{payloads}
-use Rattle.boxes.specs.Pass.{mineOf}
-use Rattle.packets.specs.Packets.{mineFrom}
+use Rattle.box_rules.specs.Order.{payloads}
+use Rattle.boxes.specs.Code.{mineOf}
+use Rattle.box_rules.specs.Packets.{mineFrom}
 use lib.ListN.{length}
 use Prim.Native.Nat.{_-_}
 use native.Mathlib.Omega.{arith}

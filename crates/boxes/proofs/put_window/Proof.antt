@@ -1,9 +1,9 @@
 -- `boxes::put_window` meets its contract: what is left to write here is the window at the start.
-use Rattle.packets.proofs.Walking.{met, gone}
+use Rattle.packets.proofs.Meeting.{met, gone}
 use Rattle.boxes.proofs.Windows.{joined-none, window-start, place-there, window-turn}
 use Rattle.boxes.proofs.Puts.{Writing, write-done}
-use Rattle.boxes.specs.Box.{joinedFrom}
-use Rattle.boxes.specs.Pass.{mineOf}
+use Rattle.box_rules.specs.Box.{joinedFrom}
+use Rattle.boxes.specs.Code.{mineOf}
 use Prim.Native.Nat.{_+_, _-_, _≤_}
 use native.Mathlib.Omega.{arith}
 use borrow.Author.Needs.{needs}

@@ -1,8 +1,8 @@
 -- `boxes::put_windows` meets its contract: what is left to write here is the whole at the front.
 use Rattle.boxes.proofs.Windows.{joined-none, joined-start, windows-turn}
 use Rattle.boxes.proofs.Puts.{Writing, write-done}
-use Rattle.boxes.specs.Box.{joinedFrom, joined}
-use Rattle.boxes.specs.Pass.{mineOf}
+use Rattle.box_rules.specs.Box.{joinedFrom, joined}
+use Rattle.boxes.specs.Code.{mineOf}
 use lib.ListN.{length}
 use Prim.Native.Nat.{_+_, _-_, _≤_}
 use mathlib.Core.Path.{_≡_, refl}

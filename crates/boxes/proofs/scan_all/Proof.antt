@@ -1,5 +1,5 @@
 -- `boxes::scan_all` meets its contract: what was met and what is left make the whole.
-use Rattle.packets.proofs.Walking.{met, gone}
+use Rattle.packets.proofs.Meeting.{met, gone}
 use Rattle.boxes.specs.declared.Scan.{Scan}
 use Rattle.boxes.proofs.Passes.{Passing, pass-start, pass-turn, pass-end, pass-ending}
 use lib.ListN.{length}

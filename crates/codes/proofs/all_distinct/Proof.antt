@@ -2,8 +2,8 @@
 use mathlib.Core.Path.{_≡_, refl, sym, _∙_}
 use Prim.Native.Nat.{_-_}
 use lib.ListN.{length, drop}
-use Rattle.codes.specs.Table.{distinct}
-use Rattle.codes.proofs.Laws.{distinct-end, distinct-no, distinct-on}
+use Rattle.bit_rules.specs.Table.{distinct}
+use Rattle.bit_rules.proofs.Tables.{distinct-end, distinct-no, distinct-on}
 use borrow.Author.Needs.{needs}
 use Rattle.codes.proofs.all_distinct.Statement.{statement}
 use Rattle.codes.proofs.all_distinct.Tie as tie

@@ -2,7 +2,7 @@
 use mathlib.Core.Path.{_≡_}
 use Prim.Native.Nat.{_-_}
 use lib.ListN.{length}
-use Rattle.codes.proofs.Trip.{Assigning, assign-first, assign-small, assign-end, assigned, assign-turn}
+use Rattle.codes.proofs.Assigning.{Assigning, assign-first, assign-small, assign-end, assigned, assign-turn}
 use borrow.Author.Needs.{needs}
 use native.Mathlib.Omega.{arith}
 use Rattle.codes.proofs.code_at.Statement.{statement}

@@ -1,7 +1,7 @@
 -- `codes::code_count` meets its contract. Assumes nothing.
 use Prim.Native.Nat.{_-_}
 use lib.ListN.{length}
-use Rattle.codes.proofs.Laws.{Summed, sum-turn, sum-end}
+use Rattle.bit_rules.proofs.Tables.{Summed, sum-turn, sum-end}
 use borrow.Author.Needs.{needs}
 use native.Mathlib.Omega.{arith}
 use Rattle.codes.proofs.code_count.Statement.{statement}

@@ -1,8 +1,8 @@
 -- `codes::code_table` meets its contract: so far each value has the entry of its place among the places passed. Assumes nothing.
 use Prim.Native.Nat.{_-_}
 use lib.ListN.{length}
-use Rattle.codes.specs.Table.{table}
-use Rattle.codes.proofs.Laws.{good}
+use Rattle.bit_rules.specs.Table.{table}
+use Rattle.bit_rules.proofs.Tables.{good}
 use Rattle.codes.proofs.Entering.{Entering, enter-start, enter-turn, enter-end}
 use borrow.Author.Needs.{needs}
 use native.Mathlib.Omega.{arith}

@@ -2,7 +2,7 @@
 use mathlib.Core.Path.{sym, _∙_}
 use Rattle.laws.specs.Index.{every}
 use borrow.Author.Tests.{eq-eqb, ne-eqb, le-leb, lt-leb}
-use Rattle.codes.specs.Table.{goodTable}
+use Rattle.bit_rules.specs.Table.{goodTable}
 use Rattle.laws.proofs.Tests.{every-last}
 use borrow.Author.Needs.{needs}
 use Rattle.codes.proofs.good_table.Statement.{statement}

@@ -2,8 +2,8 @@
 use mathlib.Core.Path.{_≡_, refl, sym, _∙_}
 use Prim.Native.Nat.{_-_}
 use lib.ListN.{length, drop}
-use Rattle.codes.specs.Table.{holds}
-use Rattle.codes.proofs.Laws.{holds-end, holds-here, holds-on}
+use Rattle.bit_rules.specs.Table.{holds}
+use Rattle.bit_rules.proofs.Tables.{holds-end, holds-here, holds-on}
 use borrow.Author.Needs.{needs}
 use Rattle.codes.proofs.holds_from.Statement.{statement}
 use Rattle.codes.proofs.holds_from.Tie as tie

@@ -1,7 +1,7 @@
 -- `codes::kraft_of` meets its contract. Assumes nothing.
 use Prim.Native.Nat.{_-_}
 use lib.ListN.{length}
-use Rattle.codes.proofs.Laws.{Weighed, product-small, weigh-start, weigh-turn, weigh-end}
+use Rattle.bit_rules.proofs.Tables.{Weighed, product-small, weigh-start, weigh-turn, weigh-end}
 use borrow.Author.Needs.{needs}
 use native.Mathlib.Omega.{arith}
 use Rattle.codes.proofs.kraft_of.Statement.{statement}

@@ -2,11 +2,12 @@
 use mathlib.Core.Path.{_≡_, sym, ap, _∙_}
 use Prim.Native.Nat.{_-_}
 use lib.ListN.{length}
-use Rattle.bits.specs.Source.{got, takeBit}
+use Rattle.bit_rules.specs.Source.{got, takeBit}
 use Rattle.bits.specs.Code.{sourceOf, takenOf}
-use Rattle.codes.specs.Table.{table}
-use Rattle.codes.specs.Read.{codedOf}
-use Rattle.codes.proofs.Reading.{bin-small, Here, here-first, here-small, here-none, here-stopped, here-room, here-found, here-on}
+use Rattle.bit_rules.specs.Table.{table}
+use Rattle.codes.specs.Code.{codedOf}
+use Rattle.bit_rules.proofs.Digits.{bin-small}
+use Rattle.codes.proofs.Reading.{Here, here-first, here-small, here-none, here-stopped, here-room, here-found, here-on}
 use borrow.Author.Needs.{needs}
 use native.Mathlib.Omega.{arith}
 use Rattle.codes.proofs.take_code.Statement.{statement}

@@ -6,7 +6,7 @@ use lib.IntN.{pos, natAbs}
 use lib.ListN.{getD}
 use mir.Syntax.{w64}
 use Rattle.laws.proofs.Integers.{back}
-use Rattle.curves.specs.Curves.{curved}
+use Rattle.merge_rules.specs.Curves.{curved}
 use Rattle.curves.proofs.Laws.{in-table, in-srgb}
 use Rattle.curves.proofs.curved.Statement.{statement}
 use Rattle.curves.proofs.curved.Tie as tie

@@ -6,7 +6,7 @@ use native.Mathlib.Omega.{arith}
 use lib.ListN.{length}
 use lib.Pow.{pow-mono}
 use Rattle.rounding.proofs.Laws.{top-below}
-use Rattle.curves.specs.Curves.{Tones}
+use Rattle.curves.specs.Code.{Tones}
 use Rattle.curves.proofs.Laws.{tones-none, tones-one}
 use Rattle.curves.proofs.make_tones.Statement.{statement}
 use Rattle.curves.proofs.make_tones.Tie as tie

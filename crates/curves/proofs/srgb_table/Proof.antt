@@ -1,6 +1,6 @@
 -- `curves::srgb_table` meets its contract: the table of the source is the table of the definition. Assumes nothing.
 use mathlib.Core.Path.{refl}
-use Rattle.curves.specs.Srgb.{srgb}
+use Rattle.merge_rules.specs.Srgb.{srgb}
 use Rattle.curves.proofs.srgb_table.Statement.{statement}
 use Rattle.curves.proofs.srgb_table.Tie as tie
 

@@ -7,9 +7,9 @@ use lib.IntN.{pos}
 use mir.Syntax.{w64}
 use mir.Val.{toZ, ofZ}
 use Rattle.laws.proofs.Integers.{back}
-use Rattle.rounding.specs.Near.{nearest}
+use Rattle.merge_rules.specs.Near.{nearest}
 use Rattle.rounding.proofs.Laws.{top-above}
-use Rattle.curves.specs.Curves.{straight}
+use Rattle.merge_rules.specs.Curves.{straight}
 use Rattle.curves.proofs.Laws.{product-below}
 use Rattle.curves.proofs.straight.Statement.{statement}
 use Rattle.curves.proofs.straight.Tie as tie

@@ -8,7 +8,7 @@ use lib.Signed.{nonNeg}
 use mir.Syntax.{w64}
 use mir.Val.{toZ, ofZ}
 use Rattle.laws.proofs.Integers.{back}
-use Rattle.curves.specs.Curves.{straight}
+use Rattle.merge_rules.specs.Curves.{straight}
 use Rattle.curves.proofs.Laws.{straight-positive, straight-small}
 use Rattle.curves.proofs.tone.Statement.{statement}
 use Rattle.curves.proofs.tone.Tie as tie

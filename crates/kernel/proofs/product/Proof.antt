@@ -7,7 +7,7 @@ use lib.ListN.{getD}
 use mir.Syntax.{w64}
 use mir.Val.{SFits}
 use Rattle.laws.proofs.Integers.{fit-in}
-use Rattle.kernel.specs.Samples.{product}
+use Rattle.transform_rules.specs.Samples.{product}
 use Rattle.kernel.proofs.Bounds.{factors-small, product-small}
 use Rattle.kernel.proofs.product.Statement.{statement}
 use Rattle.kernel.proofs.product.Tie as tie

@@ -6,7 +6,7 @@ use mir.Syntax.{w32, w64}
 use mir.Val.{SFits}
 use mir.Facts.{toZ-ofZ}
 use Rattle.laws.proofs.Integers.{back, fit-in, to64}
-use Rattle.kernel.specs.Samples.{rounded}
+use Rattle.transform_rules.specs.Samples.{rounded}
 use Rattle.kernel.proofs.Bounds.{added-small, floor-small, rounded-small}
 use Rattle.kernel.proofs.rounded.Statement.{statement}
 use Rattle.kernel.proofs.rounded.Tie as tie

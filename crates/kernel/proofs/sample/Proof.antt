@@ -4,7 +4,7 @@ use mathlib.Core.Path.{_∙_}
 use mir.Syntax.{w32, w64}
 use mir.Facts.{toZ-ofZ}
 use Rattle.laws.proofs.Integers.{back}
-use Rattle.kernel.specs.Samples.{sample}
+use Rattle.transform_rules.specs.Samples.{sample}
 use Rattle.kernel.proofs.Bounds.{double-small}
 use Rattle.kernel.proofs.sample.Statement.{statement}
 use Rattle.kernel.proofs.sample.Tie as tie

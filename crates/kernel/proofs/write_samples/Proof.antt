@@ -11,7 +11,7 @@ use mir.Val.{toZ, ofZ}
 use mir.Facts.{toZ-ofZ}
 use Rattle.laws.proofs.Integers.{back}
 use Rattle.laws.proofs.Fill.{filled, fill-start, fill-length, fill-turn}
-use Rattle.kernel.specs.Samples.{sample, blockSamples}
+use Rattle.transform_rules.specs.Samples.{sample, blockSamples}
 use Rattle.kernel.proofs.write_samples.Statement.{statement}
 use Rattle.kernel.proofs.write_samples.Tie as tie
 

@@ -1,10 +1,9 @@
 -- `listing_text::put_dec` meets its contract: digits fall from call to call.
-use Rattle.listing_text.proofs.Writes.{dec-shorter}
+use Rattle.listing_text.proofs.Writes.{dec-shorter, wrote-then, wrote-length}
 use borrow.Author.Needs.{needs}
 use native.Mathlib.Omega.{arith}
-use Rattle.listing_text.proofs.Writes.{wrote-then, wrote-length, dec-small, dec-more}
-use Prim.Native.Nat.{_+_, _-_}
-use Prim.Native.Nat.{ℕ, _<_}
+use Rattle.box_rules.proofs.Decimal.{dec-small, dec-more}
+use Prim.Native.Nat.{_+_, _-_, ℕ, _<_}
 use borrow.Fn.Kinds.{In}
 use borrow.Fn.PlainCycle.{Measures, is, falls, and}
 use Rattle.listing_text.proofs.put_dec.Reads as put-dec

@@ -1,9 +1,8 @@
 -- `listing_text::put_hex` meets its contract: digits fall from call to call.
 use native.Mathlib.Omega.{arith}
 use Rattle.listing_text.proofs.Writes.{wrote-then, wrote-none, wrote-length, hex-more, hex-none}
-use Rattle.listing_text.specs.Text.{glyph}
-use Prim.Native.Nat.{_+_, _-_}
-use Prim.Native.Nat.{ℕ, _<_}
+use Rattle.box_rules.specs.Text.{glyph}
+use Prim.Native.Nat.{_+_, _-_, ℕ, _<_}
 use borrow.Fn.Kinds.{In}
 use borrow.Fn.PlainCycle.{Measures, is, falls, and}
 use Rattle.listing_text.proofs.put_hex.Reads as put-hex

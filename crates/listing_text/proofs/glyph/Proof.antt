@@ -1,6 +1,6 @@
 -- `listing_text::glyph` meets its contract.
 use borrow.Author.Tests.{lt-ltb, le-ltb}
-use Rattle.listing_text.specs.Text.{glyph}
+use Rattle.box_rules.specs.Text.{glyph}
 use borrow.Author.Needs.{needs}
 use Rattle.listing_text.proofs.glyph.Statement.{statement}
 use Rattle.listing_text.proofs.glyph.Tie as tie

@@ -1,7 +1,7 @@
 -- `listing_text::put_answer` meets its contract.
 use native.Mathlib.Omega.{arith}
 use Rattle.listing_text.proofs.Writes.{wrote-then, wrote-length}
-use Rattle.listing_text.specs.Text.{answer}
+use Rattle.box_rules.specs.Text.{answer}
 use borrow.Author.Needs.{needs}
 use Rattle.listing_text.proofs.put_answer.Statement.{statement}
 use Rattle.listing_text.proofs.put_answer.Tie as tie

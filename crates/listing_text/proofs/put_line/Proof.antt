@@ -1,7 +1,7 @@
 -- `listing_text::put_line` meets its contract.
 use native.Mathlib.Omega.{arith}
 use Rattle.listing_text.proofs.Writes.{wrote-then, wrote-length}
-use Rattle.listing_text.specs.Text.{line}
+use Rattle.box_rules.specs.Text.{line}
 use borrow.Author.Needs.{needs}
 use Rattle.listing_text.proofs.put_line.Statement.{statement}
 use Rattle.listing_text.proofs.put_line.Tie as tie

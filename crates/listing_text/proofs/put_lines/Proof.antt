@@ -1,8 +1,8 @@
 -- `listing_text::put_lines` meets its contract: what is left to write here is the whole at the start.
-use Rattle.packets.proofs.Walking.{forward-skip, forward-meet}
-use Rattle.packets.specs.Walk.{stepsFrom}
-use Rattle.packets.specs.Packets.{packetsIn}
-use Rattle.listing_text.specs.Text.{lines}
+use Rattle.box_rules.proofs.Walking.{forward-skip, forward-meet}
+use Rattle.box_rules.specs.Walk.{stepsFrom}
+use Rattle.box_rules.specs.Packets.{packetsIn}
+use Rattle.box_rules.specs.Text.{lines}
 use Rattle.listing_text.proofs.Writes.{Going, going-start, going-more, going-same, going-done, lines-end, lines-broken, lines-skip, lines-meet}
 use lib.ListN.{length}
 use Prim.Native.Nat.{_+_, _*_, _-_, _≤_}

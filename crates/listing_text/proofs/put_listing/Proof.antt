@@ -1,5 +1,5 @@
 -- `listing_text::put_listing` meets its contract, case by case.
-use Rattle.listing_text.specs.Text.{header}
+use Rattle.box_rules.specs.Text.{header}
 use Rattle.listing_text.proofs.Writes.{wrote-then, listing-long, listing-refused, listing-good}
 use mathlib.Core.Path.{sym, _∙_}
 use borrow.Author.Needs.{needs}

@@ -5,7 +5,7 @@ use borrow.Author.Needs.{needs}
 use native.Mathlib.Omega.{arith}
 use mathlib.Core.Path.{_≡_}
 use Rattle.listing_text.proofs.Writes.{wrote-then, wrote-none, wrote-length}
-use Rattle.listing_text.specs.Text.{Wrote}
+use Rattle.listing_text.specs.Code.{Wrote}
 use Prim.Native.Nat.{_+_, _-_, _≤_}
 use lib.Seq.{take-suc, take-all}
 use native.Mathlib.Numerals.{add-one}

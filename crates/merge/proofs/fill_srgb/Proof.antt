@@ -3,7 +3,7 @@ use borrow.Author.Needs.{needs}
 use mathlib.Core.Path.{_∙_, ap}
 use mathlib.Core.List.{_++_}
 use lib.ListN.{drop}
-use Rattle.settings.specs.Tests.{samples}
+use Rattle.merge_rules.specs.Settings.{samples}
 use Rattle.merge.proofs.Tones.{srgb-there, srgb-alike}
 use Rattle.merge.proofs.fill_srgb.Statement.{statement}
 use Rattle.merge.proofs.fill_srgb.Tie as tie

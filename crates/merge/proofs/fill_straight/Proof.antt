@@ -6,8 +6,8 @@ use Prim.Native.Nat.{ℕ, _+_, _^_, _≤_}
 use native.Mathlib.Omega.{arith}
 use lib.ListN.{length, drop}
 use lib.Pow.{pow-mono}
-use Rattle.settings.specs.Tests.{samples}
-use Rattle.merge.specs.Picture.{mergedPicture}
+use Rattle.merge_rules.specs.Settings.{samples}
+use Rattle.merge_rules.specs.Picture.{mergedPicture}
 use Rattle.merge.proofs.Tones.{straight-other, lent-there, tones-there, tones-alike}
 use Rattle.merge.proofs.fill_straight.Statement.{statement}
 use Rattle.merge.proofs.fill_straight.Tie as tie

@@ -7,8 +7,8 @@ use lib.ListN.{getD}
 use mir.Syntax.{w32, w64}
 use mir.Val.{toZ, ofZ}
 use Rattle.laws.proofs.Integers.{back}
-use Rattle.pixel.specs.Pixels.{single}
-use Rattle.pixel.specs.Steps.{alone, added, scaled, basis}
+use Rattle.merge_rules.specs.Pixels.{single}
+use Rattle.merge_rules.specs.Steps.{alone, added, scaled, basis}
 use Rattle.merge.proofs.Laws.{in-one, one-alone, one-added}
 use Rattle.merge.proofs.one_at.Statement.{statement}
 use Rattle.merge.proofs.one_at.Tie as tie

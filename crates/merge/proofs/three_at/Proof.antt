@@ -7,8 +7,9 @@ use lib.IntN.{ℤ, pos}
 use lib.ListN.{getD}
 use mir.Syntax.{w32}
 use Rattle.laws.proofs.Integers.{back}
-use Rattle.pixel.specs.Pixels.{Pixel, triple, threeOf}
-use Rattle.pixel.specs.Steps.{basis, stepFour}
+use Rattle.merge_rules.specs.Pixels.{Pixel, triple}
+use Rattle.pixel.specs.Code.{threeOf}
+use Rattle.merge_rules.specs.Steps.{basis, stepFour}
 use Rattle.merge.proofs.Laws.{in-first, in-second, in-third, three-alone, three-added}
 use Rattle.merge.proofs.three_at.Statement.{statement}
 use Rattle.merge.proofs.three_at.Tie as tie

@@ -9,11 +9,12 @@ use lib.ListN.{length, drop}
 use Rattle.laws.specs.First.{firstFail}
 use Rattle.answers.proofs.Laws.{tried-refused, tried-given}
 use Rattle.answers.specs.declared.Outcome.the-variants.{Given}
-use Rattle.rounding.specs.Near.{top}
-use Rattle.merge.specs.Picture.{mergedPicture}
-use Rattle.settings.specs.Tests.{inRanges, plain, srgbAllowed, lengthsRight, entryRight, Ranged, Passed}
+use Rattle.merge_rules.specs.Near.{top}
+use Rattle.merge_rules.specs.Picture.{mergedPicture}
+use Rattle.merge_rules.specs.Settings.{inRanges, plain, srgbAllowed, lengthsRight, entryRight}
+use Rattle.settings.specs.Code.{Ranged, Passed}
 use Rattle.settings.proofs.Laws.{ranged, passed, count-small}
-use Rattle.merge.proofs.Order.{no-range, not-plain, no-srgb, no-lengths, too-large, no-room, all-right, picture-long}
+use Rattle.merge_rules.proofs.Order.{no-range, not-plain, no-srgb, no-lengths, too-large, no-room, all-right, picture-long}
 use Rattle.merge.proofs.try_merge.Statement.{statement}
 use Rattle.merge.proofs.try_merge.Tie as tie
 

@@ -1,8 +1,8 @@
 -- `numbers::count_between` meets its contract: what was counted and what is left make the whole count.
-use Rattle.packets.proofs.Walking.{met, gone}
+use Rattle.packets.proofs.Meeting.{met, gone}
 use Rattle.numbers.proofs.Chosen.{between-turn, between-end}
-use Rattle.numbers.proofs.Counts.{numbers-met, numbers-gone}
-use Rattle.numbers.specs.Numbers.{numbersFrom, within, between}
+use Rattle.numbers.proofs.Meeting.{numbers-met, numbers-gone}
+use Rattle.box_rules.specs.Numbers.{numbersFrom, within, between}
 use lib.ListN.{length}
 use Prim.Native.Nat.{_+_, _-_, _≤_}
 use mathlib.Core.Path.{_≡_}

@@ -1,8 +1,8 @@
 -- `numbers::gather` meets its contract: what is in hand and what is still to come make the window.
-use Rattle.packets.proofs.Walking.{met, gone}
+use Rattle.packets.proofs.Meeting.{met, gone}
 use Rattle.numbers.proofs.Chosen.{Gathering, gather-start, gather-room, gather-here, gather-other, gather-end}
-use Rattle.numbers.proofs.Counts.{numbers-met, numbers-gone}
-use Rattle.numbers.specs.Numbers.{numbersFrom, within}
+use Rattle.numbers.proofs.Meeting.{numbers-met, numbers-gone}
+use Rattle.box_rules.specs.Numbers.{numbersFrom, within}
 use lib.ListN.{length}
 use Prim.Native.Nat.{_-_}
 use mathlib.Core.Path.{sym, _∙_}

@@ -1,8 +1,8 @@
 -- `numbers::least_twice` meets its contract.
 use Rattle.numbers.proofs.Chosen.{drop-next}
 -- `numbers::least_twice` meets its contract: the least of what was found and what is left is the least of all.
-use Rattle.numbers.proofs.Counts.{twice-turn, twice-end}
-use Rattle.numbers.specs.Numbers.{least, firstTwice}
+use Rattle.box_rules.proofs.Counts.{twice-turn, twice-end}
+use Rattle.box_rules.specs.Numbers.{least, firstTwice}
 use lib.ListN.{length, drop, drop-of-length-le}
 use Prim.Native.Nat.{_-_, _≤_}
 use mathlib.Core.Path.{_≡_, refl}

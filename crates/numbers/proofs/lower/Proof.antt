@@ -1,7 +1,7 @@
 -- `numbers::lower` meets its contract.
 use Rattle.laws.specs.declared.Found.the-variants.{At}
-use Rattle.numbers.proofs.Counts.{least-right}
-use Rattle.numbers.specs.Numbers.{least}
+use Rattle.box_rules.proofs.Counts.{least-right}
+use Rattle.box_rules.specs.Numbers.{least}
 use mathlib.Core.Path.{ap}
 use native.Mathlib.Omega.{arith}
 use borrow.Author.Tests.{eq-eqb, ne-eqb}

@@ -1,8 +1,8 @@
 -- `numbers::past_all` meets its contract: from m on, what is left has all that there is.
-use Rattle.packets.proofs.Walking.{met, gone}
+use Rattle.packets.proofs.Meeting.{met, gone}
 use Rattle.numbers.proofs.Chosen.{past-turn, past-end}
-use Rattle.numbers.proofs.Counts.{numbers-met, numbers-gone}
-use Rattle.numbers.specs.Numbers.{numbersFrom, count}
+use Rattle.numbers.proofs.Meeting.{numbers-met, numbers-gone}
+use Rattle.box_rules.specs.Numbers.{numbersFrom, count}
 use lib.ListN.{length}
 use Prim.Native.Nat.{ℕ, _-_, _≤_}
 use mathlib.Core.Path.{_≡_}

@@ -1,7 +1,7 @@
 -- `numbers::stands_from` meets its contract: what was counted and what is left make the whole count.
 use Rattle.numbers.proofs.Chosen.{drop-next}
-use Rattle.numbers.proofs.Counts.{count-turn, count-end}
-use Rattle.numbers.specs.Numbers.{count}
+use Rattle.box_rules.proofs.Counts.{count-turn, count-end}
+use Rattle.box_rules.specs.Numbers.{count}
 use lib.ListN.{length, drop, drop-of-length-le}
 use Prim.Native.Nat.{_+_, _-_, _≤_}
 use mathlib.Core.Path.{_≡_}

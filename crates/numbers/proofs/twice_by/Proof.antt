@@ -1,6 +1,6 @@
 -- `numbers::twice_by` meets its contract: below `lo` no number stands twice.
 use Rattle.numbers.proofs.Chosen.{windows-next, windows-found, windows-end}
-use Rattle.numbers.specs.Numbers.{numbersFrom, count}
+use Rattle.box_rules.specs.Numbers.{numbersFrom, count}
 use lib.ListN.{length}
 use Prim.Native.Nat.{ℕ, _-_, _≤_, _<_}
 use mathlib.Core.Path.{_≡_, refl}

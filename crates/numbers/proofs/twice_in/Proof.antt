@@ -2,7 +2,7 @@
 use lib.Seq.{length-take-le}
 -- `numbers::twice_in` meets its contract: a window of one number is counted, another is searched in hand.
 use Rattle.numbers.proofs.Chosen.{window-twice, single-once, single-twice}
-use Rattle.numbers.specs.Numbers.{firstTwice}
+use Rattle.box_rules.specs.Numbers.{firstTwice}
 use mathlib.Core.Path.{sym, ap, _∙_}
 use native.Mathlib.Omega.{arith}
 use borrow.Author.Needs.{needs}

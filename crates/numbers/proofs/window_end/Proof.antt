@@ -1,5 +1,5 @@
 -- `numbers::window_end` meets its contract: up to `good` the window fits, or is one number wide.
-use Rattle.numbers.specs.Numbers.{numbersFrom, between}
+use Rattle.box_rules.specs.Numbers.{numbersFrom, between}
 use Prim.Native.Nat.{_+_, _-_, _≤_, _<_}
 use mathlib.Core.Path.{_≡_, refl}
 use native.Mathlib.Omega.{arith}

@@ -1,5 +1,5 @@
 -- `numbers::within` meets its contract.
-use Rattle.numbers.specs.Numbers.{within}
+use Rattle.box_rules.specs.Numbers.{within}
 use borrow.Author.Tests.{lt-ltb, le-ltb}
 use Rattle.numbers.proofs.within.Statement.{statement}
 use Rattle.numbers.proofs.within.Tie as tie

@@ -1,6 +1,6 @@
 -- `packets::barred` meets its contract.
 use borrow.Author.Tests.{lt-ltb, le-ltb}
-use Rattle.packets.specs.Walk.{barred}
+use Rattle.box_rules.specs.Walk.{barred}
 use Rattle.packets.proofs.barred.Statement.{statement}
 use Rattle.packets.proofs.barred.Tie as tie
 

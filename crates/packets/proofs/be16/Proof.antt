@@ -1,5 +1,5 @@
 -- `packets::be16` meets its contract.
-use Rattle.packets.specs.Walk.{be16}
+use Rattle.box_rules.specs.Walk.{be16}
 use borrow.Author.Needs.{needs}
 use Rattle.packets.proofs.be16.Statement.{statement}
 use Rattle.packets.proofs.be16.Tie as tie

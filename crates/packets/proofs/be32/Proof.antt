@@ -1,5 +1,5 @@
 -- `packets::be32` meets its contract.
-use Rattle.packets.specs.Walk.{be32}
+use Rattle.box_rules.specs.Walk.{be32}
 use borrow.Author.Needs.{needs}
 use Rattle.packets.proofs.be32.Statement.{statement}
 use Rattle.packets.proofs.be32.Tie as tie

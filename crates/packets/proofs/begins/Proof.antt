@@ -1,6 +1,6 @@
 -- `packets::begins` meets its contract.
 use borrow.Author.Tests.{lt-ltb, le-ltb, eq-eqb, ne-eqb}
-use Rattle.packets.specs.Walk.{begins}
+use Rattle.box_rules.specs.Walk.{begins}
 use borrow.Author.Needs.{needs}
 use Rattle.packets.proofs.begins.Statement.{statement}
 use Rattle.packets.proofs.begins.Tie as tie

@@ -1,5 +1,5 @@
 -- `packets::full_step` meets its contract: each return goes by the tests that led there.
-use Rattle.packets.specs.Walk.{barred, markedAt, stepAt}
+use Rattle.box_rules.specs.Walk.{barred, markedAt, stepAt}
 use borrow.Author.Tests.{le-leb, lt-leb, eq-eqb, ne-eqb}
 use borrow.Author.Needs.{needs}
 use Rattle.packets.proofs.full_step.Statement.{statement}

@@ -1,5 +1,5 @@
 -- `packets::head_at` meets its contract: field by field.
-use Rattle.packets.specs.Walk.{headAt}
+use Rattle.box_rules.specs.Walk.{headAt}
 use borrow.Author.Needs.{needs}
 use Rattle.packets.proofs.head_at.Statement.{statement}
 use Rattle.packets.proofs.head_at.Tie as tie

@@ -1,5 +1,5 @@
 -- `packets::is_mine` meets its contract.
-use Rattle.packets.specs.Packets.{isMine}
+use Rattle.box_rules.specs.Packets.{isMine}
 use borrow.Author.Tests.{eq-eqb, ne-eqb}
 use Rattle.packets.proofs.is_mine.Statement.{statement}
 use Rattle.packets.proofs.is_mine.Tie as tie

@@ -1,7 +1,7 @@
 -- `packets::mine_here` meets its contract.
 use mathlib.Core.Path.{ap, sym, _∙_}
 use native.Mathlib.Omega.{arith}
-use Rattle.packets.specs.Packets.{isMine}
+use Rattle.box_rules.specs.Packets.{isMine}
 use Rattle.packets.proofs.Quick.{mine-packed}
 use borrow.Author.Needs.{needs}
 use Rattle.packets.proofs.mine_here.Statement.{statement}

@@ -1,7 +1,8 @@
 -- `packets::next_mine` meets its contract: the packets from here on are those from the start on.
-use Rattle.packets.proofs.Walking.{forward-skip, forward-meet, mine-end, mine-broken, mine-skip, mine-other, mine-met, ending-skip, ending-meet}
-use Rattle.packets.specs.Walk.{stepsFrom, ending}
-use Rattle.packets.specs.Packets.{mineFrom}
+use Rattle.box_rules.proofs.Walking.{forward-skip, forward-meet, ending-skip, ending-meet}
+use Rattle.packets.proofs.Meeting.{mine-end, mine-broken, mine-skip, mine-other, mine-met}
+use Rattle.box_rules.specs.Walk.{stepsFrom, ending}
+use Rattle.box_rules.specs.Packets.{mineFrom}
 use lib.ListN.{length}
 use Prim.Native.Nat.{_-_, _≤_}
 use mathlib.Core.Path.{_≡_, sym, _∙_}

@@ -1,5 +1,5 @@
 -- `packets::packet_at` meets its contract: each return goes by the tests that led there.
-use Rattle.packets.specs.Walk.{packetAt}
+use Rattle.box_rules.specs.Walk.{packetAt}
 use borrow.Author.Tests.{lt-ltb, le-ltb}
 use borrow.Author.Needs.{needs}
 use Rattle.packets.proofs.packet_at.Statement.{statement}

@@ -3,8 +3,8 @@ use borrow.Author.Needs.{needs}
 use Prim.Native.Nat.{_+_, _-_}
 use mathlib.Core.Path.{_≡_, sym, _∙_}
 use lib.ListN.{length, drop}
-use Rattle.packets.specs.Walk.{ones}
-use Rattle.packets.proofs.Runs.{ones-on, ones-off, ones-end}
+use Rattle.box_rules.specs.Walk.{ones}
+use Rattle.box_rules.proofs.Runs.{ones-on, ones-off, ones-end}
 use Rattle.packets.proofs.past_ones.Statement.{statement}
 use Rattle.packets.proofs.past_ones.Tie as tie
 

@@ -1,5 +1,5 @@
 -- `packets::sized_at` meets its contract: each return goes by the tests that led there.
-use Rattle.packets.specs.Walk.{be16, sizedAt}
+use Rattle.box_rules.specs.Walk.{be16, sizedAt}
 use borrow.Author.Tests.{lt-ltb, le-ltb}
 use borrow.Author.Needs.{needs}
 use Rattle.packets.proofs.sized_at.Statement.{statement}

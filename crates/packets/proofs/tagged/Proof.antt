@@ -1,6 +1,6 @@
 -- `packets::tagged` meets its contract.
 use borrow.Author.Tests.{lt-ltb, le-ltb, eq-eqb, ne-eqb}
-use Rattle.packets.specs.Walk.{tagged}
+use Rattle.box_rules.specs.Walk.{tagged}
 use borrow.Author.Needs.{needs}
 use Rattle.packets.proofs.tagged.Statement.{statement}
 use Rattle.packets.proofs.tagged.Tie as tie

@@ -1,5 +1,5 @@
 -- `packets::walk_all` meets its contract.
-use Rattle.packets.specs.Walk.{walk}
+use Rattle.box_rules.specs.Walk.{walk}
 use borrow.Author.Needs.{needs}
 use Rattle.packets.proofs.walk_all.Statement.{statement}
 use Rattle.packets.proofs.walk_all.Tie as tie

@@ -1,6 +1,6 @@
 -- `packets::walk_end` meets its contract: the walk from here ends as the walk from the start does.
-use Rattle.packets.proofs.Walking.{forward-skip, forward-meet, ending-end, ending-broken, ending-skip, ending-meet}
-use Rattle.packets.specs.Walk.{stepsFrom, ending}
+use Rattle.box_rules.proofs.Walking.{forward-skip, forward-meet, ending-end, ending-broken, ending-skip, ending-meet}
+use Rattle.box_rules.specs.Walk.{stepsFrom, ending}
 use lib.ListN.{length}
 use Prim.Native.Nat.{_-_}
 use mathlib.Core.Path.{_≡_, refl, sym, _∙_}

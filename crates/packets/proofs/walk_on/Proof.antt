@@ -1,6 +1,6 @@
 -- `packets::walk_on` meets its contract.
-use Rattle.packets.proofs.Walking.{on-begun, on-not}
-use Rattle.packets.specs.Walk.{ending}
+use Rattle.box_rules.proofs.Walking.{on-begun, on-not}
+use Rattle.box_rules.specs.Walk.{ending}
 use mathlib.Core.Path.{sym, ap, _∙_}
 use borrow.Author.Needs.{needs}
 use Rattle.packets.proofs.walk_on.Statement.{statement}

@@ -1,6 +1,6 @@
 -- `packets::whole_at` meets its contract.
 use borrow.Author.Tests.{eq-eqb, ne-eqb}
-use Rattle.packets.specs.Walk.{tagged, wholeAt}
+use Rattle.box_rules.specs.Walk.{tagged, wholeAt}
 use borrow.Author.Needs.{needs}
 use Rattle.packets.proofs.whole_at.Statement.{statement}
 use Rattle.packets.proofs.whole_at.Tie as tie

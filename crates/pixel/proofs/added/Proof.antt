@@ -3,13 +3,12 @@ use borrow.Author.Needs.{needs}
 use mathlib.Core.Path.{_≡_, ap, _∙_}
 use mir.Syntax.{w64}
 use mir.Facts.{toZ-ofZ}
-use Rattle.laws.proofs.Integers.{back}
+use Rattle.laws.proofs.Integers.{back, fit-in}
 use mir.Val.{SFits, toZ, ofZ}
 use Prim.Native.Nat.{_+_, _^_}
 use lib.IntN.{pos, _+ℤ_, _-ℤ_}
-use Rattle.laws.proofs.Integers.{fit-in}
-use Rattle.rounding.specs.Near.{clip}
-use Rattle.pixel.specs.Steps.{added}
+use Rattle.merge_rules.specs.Near.{clip}
+use Rattle.merge_rules.specs.Steps.{added}
 use Rattle.pixel.proofs.Laws.{sum-below, difference-below}
 use Rattle.pixel.proofs.added.Statement.{statement}
 use Rattle.pixel.proofs.added.Tie as tie

@@ -2,7 +2,7 @@
 use borrow.Author.Needs.{needs}
 use mir.Syntax.{w64}
 use Rattle.laws.proofs.Integers.{back}
-use Rattle.pixel.specs.Pixels.{both}
+use Rattle.merge_rules.specs.Pixels.{both}
 use Rattle.pixel.proofs.added_three.Statement.{statement}
 use Rattle.pixel.proofs.added_three.Tie as tie
 

@@ -2,8 +2,8 @@
 use borrow.Author.Needs.{needs}
 use mathlib.Core.Path.{ap, _∙_}
 use mir.Facts.{toZ-ofZ}
-use Rattle.rounding.specs.Near.{clip}
-use Rattle.pixel.specs.Steps.{alone}
+use Rattle.merge_rules.specs.Near.{clip}
+use Rattle.merge_rules.specs.Steps.{alone}
 use Rattle.pixel.proofs.alone.Statement.{statement}
 use Rattle.pixel.proofs.alone.Tie as tie
 

@@ -5,9 +5,9 @@ use mir.Syntax.{w64}
 use mir.Facts.{toZ-ofZ}
 use Rattle.laws.proofs.Integers.{back}
 use lib.IntN.{ℤ}
-use Rattle.rounding.specs.Near.{clip, top}
-use Rattle.curves.specs.Curves.{curved}
-use Rattle.pixel.specs.Pixels.{single}
+use Rattle.merge_rules.specs.Near.{clip, top}
+use Rattle.merge_rules.specs.Curves.{curved}
+use Rattle.merge_rules.specs.Pixels.{single}
 use Rattle.pixel.proofs.Laws.{basis-single}
 use Rattle.pixel.proofs.basis_one.Statement.{statement}
 use Rattle.pixel.proofs.basis_one.Tie as tie

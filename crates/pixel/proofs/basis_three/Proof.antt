@@ -5,8 +5,9 @@ use mir.Syntax.{w64}
 use mir.Facts.{toZ-ofZ}
 use Rattle.laws.proofs.Integers.{back}
 use native.Mathlib.Omega.{arith}
-use Rattle.pixel.specs.Pixels.{triple, threeOf}
-use Rattle.pixel.specs.Steps.{recolour, firstCentre, stepThree, basis}
+use Rattle.merge_rules.specs.Pixels.{triple}
+use Rattle.pixel.specs.Code.{threeOf}
+use Rattle.merge_rules.specs.Steps.{recolour, firstCentre, stepThree, basis}
 use Rattle.pixel.proofs.Laws.{two-steps}
 use Rattle.pixel.proofs.basis_three.Statement.{statement}
 use Rattle.pixel.proofs.basis_three.Tie as tie

@@ -1,7 +1,7 @@
 -- `pixel::first_centre` meets its contract. Assumes nothing.
 use mathlib.Core.Path.{refl}
 use native.Mathlib.Omega.{arith}
-use Rattle.pixel.specs.Steps.{firstCentre}
+use Rattle.merge_rules.specs.Steps.{firstCentre}
 use Rattle.pixel.proofs.first_centre.Statement.{statement}
 use Rattle.pixel.proofs.first_centre.Tie as tie
 

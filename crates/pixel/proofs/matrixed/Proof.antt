@@ -3,7 +3,7 @@ use borrow.Author.Needs.{needs}
 use native.Mathlib.Omega.{arith}
 use mir.Syntax.{w64}
 use Rattle.laws.proofs.Integers.{back}
-use Rattle.pixel.specs.Steps.{matrixed, stepThree}
+use Rattle.merge_rules.specs.Steps.{matrixed, stepThree}
 use Rattle.pixel.proofs.matrixed.Statement.{statement}
 use Rattle.pixel.proofs.matrixed.Tie as tie
 

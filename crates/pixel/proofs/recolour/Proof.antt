@@ -3,7 +3,7 @@ use borrow.Author.Needs.{needs}
 use mathlib.Core.Path.{_∙_}
 use native.Mathlib.Omega.{arith}
 use mir.Facts.{toZ-ofZ}
-use Rattle.pixel.specs.Steps.{recolour}
+use Rattle.merge_rules.specs.Steps.{recolour}
 use Rattle.pixel.proofs.recolour.Statement.{statement}
 use Rattle.pixel.proofs.recolour.Tie as tie
 

@@ -4,8 +4,8 @@ use mathlib.Core.Path.{_∙_}
 use mir.Syntax.{w64}
 use mir.Facts.{toZ-ofZ}
 use Rattle.laws.proofs.Integers.{back}
-use Rattle.pixel.specs.Pixels.{each}
-use Rattle.pixel.specs.Steps.{recolour, stepFour}
+use Rattle.merge_rules.specs.Pixels.{each}
+use Rattle.merge_rules.specs.Steps.{recolour, stepFour}
 use Rattle.pixel.proofs.residual_three.Statement.{statement}
 use Rattle.pixel.proofs.residual_three.Tie as tie
 

@@ -4,13 +4,12 @@ use mathlib.Core.Path.{_≡_, ap, _∙_}
 use native.Mathlib.Omega.{arith}
 use mir.Syntax.{w64}
 use mir.Facts.{toZ-ofZ}
-use Rattle.laws.proofs.Integers.{back}
+use Rattle.laws.proofs.Integers.{back, fit-in}
 use mir.Val.{SFits, toZ, ofZ}
 use Prim.Native.Nat.{_+_, _-_, _^_, _≤_}
 use lib.IntN.{pos, natAbs, _*ℤ_}
 use lib.Signed.{natAbs-le}
-use Rattle.laws.proofs.Integers.{fit-in}
-use Rattle.rounding.specs.Near.{nearest}
+use Rattle.merge_rules.specs.Near.{nearest}
 use Rattle.pixel.proofs.Laws.{scaled-sixteenths, sixteenths-below, scaled-below}
 use Rattle.pixel.proofs.scaled.Statement.{statement}
 use Rattle.pixel.proofs.scaled.Tie as tie

@@ -5,8 +5,8 @@ use native.Mathlib.Omega.{arith}
 use mir.Syntax.{w64}
 use mir.Facts.{toZ-ofZ}
 use Rattle.laws.proofs.Integers.{back}
-use Rattle.rounding.specs.Near.{row}
-use Rattle.pixel.specs.Steps.{tinted}
+use Rattle.merge_rules.specs.Near.{row}
+use Rattle.merge_rules.specs.Steps.{tinted}
 use Rattle.pixel.proofs.tinted.Statement.{statement}
 use Rattle.pixel.proofs.tinted.Tie as tie
 

@@ -5,9 +5,9 @@ use native.Mathlib.Omega.{arith}
 use mir.Syntax.{w64}
 use mir.Facts.{toZ-ofZ}
 use Rattle.laws.proofs.Integers.{back}
-use Rattle.rounding.specs.Near.{clip, top}
+use Rattle.merge_rules.specs.Near.{clip, top}
 use Rattle.rounding.proofs.Laws.{clip-small}
-use Rattle.curves.specs.Curves.{curved}
+use Rattle.merge_rules.specs.Curves.{curved}
 use Rattle.pixel.proofs.toned.Statement.{statement}
 use Rattle.pixel.proofs.toned.Tie as tie
 

@@ -8,7 +8,7 @@ use mir.Syntax.{w64}
 use mir.Val.{toZ, ofZ}
 use mir.Facts.{toZ-ofZ}
 use Rattle.laws.proofs.Integers.{back}
-use Rattle.pixel.specs.Steps.{transform, tints}
+use Rattle.merge_rules.specs.Steps.{transform, tints}
 use Rattle.pixel.proofs.transform.Statement.{statement}
 use Rattle.pixel.proofs.transform.Tie as tie
 

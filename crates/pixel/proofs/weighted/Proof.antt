@@ -8,9 +8,9 @@ use lib.ListN.{getD}
 use mir.Syntax.{w16, w64}
 use mir.Val.{toZ, ofZ}
 use Rattle.laws.proofs.Integers.{back}
-use Rattle.rounding.specs.Near.{row}
+use Rattle.merge_rules.specs.Near.{row}
 use Rattle.rounding.proofs.Laws.{row-small}
-use Rattle.pixel.specs.Steps.{weighted}
+use Rattle.merge_rules.specs.Steps.{weighted}
 use Rattle.pixel.proofs.weighted.Statement.{statement}
 use Rattle.pixel.proofs.weighted.Tie as tie
 

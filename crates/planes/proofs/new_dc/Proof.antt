@@ -4,10 +4,10 @@ use lib.IntN.{pos, _+ℤ_, _*ℤ_}
 use mir.Syntax.{w32}
 use mir.Val.{SFits, toZ}
 use mir.Facts.{toZ-pos}
-use Rattle.bits.specs.Digits.{bin}
-use Rattle.codes.proofs.Reading.{bin-small}
+use Rattle.bit_rules.specs.Digits.{bin}
+use Rattle.bit_rules.proofs.Digits.{bin-small}
 use Rattle.laws.proofs.Integers.{fit, abs-prod, abs-sum}
-use Rattle.planes.specs.Dc.{newDc}
+use Rattle.plane_rules.specs.Dc.{newDc}
 use native.Mathlib.Omega.{arith}
 use borrow.Author.Needs.{needs}
 use Rattle.planes.proofs.new_dc.Statement.{statement}

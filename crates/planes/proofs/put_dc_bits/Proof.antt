@@ -7,7 +7,7 @@ use lib.ListN.{length, getD, drop, length-map}
 use mir.Syntax.{w32}
 use Rattle.laws.proofs.Integers.{back}
 use Rattle.bits.proofs.Putting.{Going, going-start, fresh-sound}
-use Rattle.planes.specs.Dc.{dcBit}
+use Rattle.plane_rules.specs.Dc.{dcBit}
 use Rattle.planes.proofs.DcWriting.{bits-turn, bits-end}
 use borrow.Author.Needs.{needs}
 use native.Mathlib.Omega.{arith}

@@ -6,9 +6,9 @@ use lib.ListN.{length, getD}
 use mir.Syntax.{w32}
 use mir.Val.{toZ, ofZ}
 use Rattle.laws.proofs.Integers.{back}
-use Rattle.bits.specs.Source.{got, takeBit}
+use Rattle.bit_rules.specs.Source.{got, takeBit}
 use Rattle.bits.specs.Code.{sourceOf, takenOf}
-use Rattle.planes.specs.Dc.{newDc}
+use Rattle.plane_rules.specs.Dc.{newDc}
 use Rattle.planes.proofs.DcReading.{Now, now-first, now-turn, now-stopped, now-end}
 use borrow.Author.Needs.{needs}
 use Rattle.planes.proofs.read_dc_blocks.Statement.{statement}

@@ -5,9 +5,9 @@ use borrow.Author.Tests.{not-true, not-false, eq-eqb, ne-eqb, le-leb, lt-leb}
 use Rattle.laws.specs.Index.{every}
 use Rattle.answers.proofs.Laws.{tried-refused}
 use Rattle.levels.proofs.Ranges.{all-small}
-use Rattle.planes.specs.Plane.{readable}
-use Rattle.planes.specs.Dc.{readDc}
-use Rattle.planes.proofs.Ranges.{Ranged, ranged}
+use Rattle.plane_rules.specs.Plane.{readable}
+use Rattle.plane_rules.specs.Dc.{readDc}
+use Rattle.plane_rules.proofs.Ranges.{Ranged, ranged}
 use Rattle.planes.proofs.Closing.{closing}
 use native.Mathlib.Omega.{arith}
 use borrow.Author.Needs.{needs}

@@ -6,9 +6,9 @@ use borrow.Author.Tests.{not-true, not-false, eq-eqb, ne-eqb}
 use Rattle.laws.specs.Index.{every}
 use Rattle.answers.proofs.Laws.{tried-refused, fitting-given, fitting-short}
 use Rattle.bits.proofs.Putting.{all-counted, all-stored}
-use Rattle.planes.specs.Plane.{writable}
-use Rattle.planes.specs.Dc.{dcBit, dcBytes, writeDc}
-use Rattle.planes.proofs.Ranges.{Ranged, ranged}
+use Rattle.plane_rules.specs.Plane.{writable}
+use Rattle.plane_rules.specs.Dc.{dcBit, dcBytes, writeDc}
+use Rattle.plane_rules.proofs.Ranges.{Ranged, ranged}
 use native.Mathlib.Omega.{arith}
 use borrow.Author.Needs.{needs}
 use Rattle.planes.proofs.try_write_dc.Statement.{statement}

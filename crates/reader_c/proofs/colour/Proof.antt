@@ -1,6 +1,6 @@
 -- `reader_c::colour` meets its contract. Assumes nothing.
 use borrow.Author.Tests.{eq-eqb, ne-eqb}
-use Rattle.reader_c.specs.Merge.{colourOf}
+use Rattle.merge_rules.specs.Call.{colourOf}
 use Rattle.reader_c.proofs.colour.Statement.{statement}
 use Rattle.reader_c.proofs.colour.Tie as tie
 

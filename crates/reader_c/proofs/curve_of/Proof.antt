@@ -1,6 +1,6 @@
 -- `reader_c::curve_of` meets its contract. Assumes nothing.
 use borrow.Author.Tests.{eq-eqb, ne-eqb}
-use Rattle.reader_c.specs.Merge.{curveOf}
+use Rattle.merge_rules.specs.Call.{curveOf}
 use Rattle.reader_c.proofs.curve_of.Statement.{statement}
 use Rattle.reader_c.proofs.curve_of.Tie as tie
 

@@ -3,7 +3,7 @@ use mathlib.Core.Path.{sym}
 use borrow.Author.Tests.{lt-ltb, le-ltb}
 use Rattle.laws.specs.Index.{every}
 use Rattle.laws.proofs.Tests.{every-last}
-use Rattle.reader_c.specs.Merge.{known}
+use Rattle.merge_rules.specs.Call.{known}
 use Rattle.reader_c.proofs.known.Statement.{statement}
 use Rattle.reader_c.proofs.known.Tie as tie
 

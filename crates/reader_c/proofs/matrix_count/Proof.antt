@@ -1,5 +1,5 @@
 -- `reader_c::matrix_count` meets its contract. Assumes nothing.
-use Rattle.reader_c.specs.Merge.{matrixCount}
+use Rattle.merge_rules.specs.Call.{matrixCount}
 use borrow.Author.Needs.{needs}
 use Rattle.reader_c.proofs.matrix_count.Statement.{statement}
 use Rattle.reader_c.proofs.matrix_count.Tie as tie

@@ -1,6 +1,6 @@
 -- `reader_c::matrix_of` meets its contract. Assumes nothing.
 use borrow.Author.Tests.{eq-eqb, ne-eqb}
-use Rattle.reader_c.specs.Merge.{matrixOf}
+use Rattle.merge_rules.specs.Call.{matrixOf}
 use Rattle.reader_c.proofs.matrix_of.Statement.{statement}
 use Rattle.reader_c.proofs.matrix_of.Tie as tie
 

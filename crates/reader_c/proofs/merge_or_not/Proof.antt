@@ -1,7 +1,7 @@
 -- `reader_c::merge_or_not` meets its promise. Assumes nothing.
 use mathlib.Core.Path.{refl}
 use borrow.Author.Tests.{eq-eqb, ne-eqb}
-use Rattle.reader_c.specs.Merge.{mergeCall}
+use Rattle.merge_rules.specs.Call.{mergeCall}
 use borrow.Author.Needs.{needs}
 use Rattle.reader_c.proofs.merge_or_not.Statement.{statement}
 use Rattle.reader_c.proofs.merge_or_not.Tie as tie

@@ -1,6 +1,6 @@
 -- `reader_c::residual_of` meets its contract. Assumes nothing.
 use borrow.Author.Tests.{eq-eqb, ne-eqb}
-use Rattle.reader_c.specs.Merge.{residualOf}
+use Rattle.merge_rules.specs.Call.{residualOf}
 use Rattle.reader_c.proofs.residual_of.Statement.{statement}
 use Rattle.reader_c.proofs.residual_of.Tie as tie
 

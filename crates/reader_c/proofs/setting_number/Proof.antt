@@ -2,7 +2,7 @@
 use mathlib.Core.Path.{sym, _∙_}
 use borrow.Author.Tests.{not-true, not-false, eq-eqb, ne-eqb}
 use Rattle.laws.specs.Index.{every}
-use Rattle.reader_c.specs.Merge.{settingNumber}
+use Rattle.merge_rules.specs.Call.{settingNumber}
 use borrow.Author.Needs.{needs}
 use Rattle.reader_c.proofs.setting_number.Statement.{statement}
 use Rattle.reader_c.proofs.setting_number.Tie as tie

@@ -4,7 +4,7 @@ use lib.ListN.{getD}
 use mir.Syntax.{w16}
 use Rattle.laws.proofs.Integers.{back}
 use borrow.Author.Tests.{lt-ltb, le-ltb}
-use Rattle.reader_c.specs.Merge.{weightsOf}
+use Rattle.merge_rules.specs.Call.{weightsOf}
 use borrow.Author.Needs.{needs}
 use Rattle.reader_c.proofs.weights_of.Statement.{statement}
 use Rattle.reader_c.proofs.weights_of.Tie as tie

@@ -1,5 +1,5 @@
 -- `reader_c::xt_merge` meets its promise: the setting is made of what the numbers name. Assumes nothing.
-use Rattle.reader_c.specs.Merge.{settingOf}
+use Rattle.merge_rules.specs.Call.{settingOf}
 use borrow.Author.Needs.{needs}
 use Rattle.reader_c.proofs.xt_merge.Statement.{statement}
 use Rattle.reader_c.proofs.xt_merge.Tie as tie

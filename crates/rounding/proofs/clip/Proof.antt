@@ -2,7 +2,7 @@
 use borrow.Author.Needs.{needs}
 use mathlib.Core.Path.{ap, _∙_}
 use mir.Facts.{toZ-ofZ}
-use Rattle.rounding.specs.Near.{clip}
+use Rattle.merge_rules.specs.Near.{clip}
 use Rattle.rounding.proofs.clip.Statement.{statement}
 use Rattle.rounding.proofs.clip.Tie as tie
 

@@ -8,7 +8,7 @@ use mir.Syntax.{w64}
 use mir.Val.{SFits, toZ, ofZ}
 use mir.Facts.{toZ-ofZ, toZ-pos}
 use Rattle.laws.proofs.Integers.{fit, abs-sum, back}
-use Rattle.rounding.specs.Near.{nearest}
+use Rattle.merge_rules.specs.Near.{nearest}
 use Rattle.rounding.proofs.Laws.{nearest-floor, nearest-small}
 use Rattle.rounding.proofs.nearest.Statement.{statement}
 use Rattle.rounding.proofs.nearest.Tie as tie

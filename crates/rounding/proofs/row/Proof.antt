@@ -6,7 +6,7 @@ use mir.Syntax.{w64}
 use mir.Val.{SFits}
 use mir.Facts.{toZ-ofZ}
 use Rattle.laws.proofs.Integers.{fit-in, abs-prod-le}
-use Rattle.rounding.specs.Near.{row}
+use Rattle.merge_rules.specs.Near.{row}
 use Rattle.rounding.proofs.Laws.{pair-small, row-small}
 use Rattle.rounding.proofs.row.Statement.{statement}
 use Rattle.rounding.proofs.row.Tie as tie

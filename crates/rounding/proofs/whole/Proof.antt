@@ -9,7 +9,7 @@ use mir.Syntax.{w64}
 use mir.Val.{SFits, toZ, ofZ}
 use mir.Facts.{toZ-ofZ}
 use Rattle.laws.proofs.Integers.{fit-in}
-use Rattle.rounding.specs.Near.{nearest}
+use Rattle.merge_rules.specs.Near.{nearest}
 use Rattle.rounding.proofs.Laws.{lift, Lifted, lifted, whole-is, nearest-small}
 use Rattle.rounding.proofs.whole.Statement.{statement}
 use Rattle.rounding.proofs.whole.Tie as tie

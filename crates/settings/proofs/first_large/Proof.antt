@@ -10,7 +10,7 @@ use lib.ListN.{length, getD}
 use Rattle.laws.specs.First.{firstFail}
 use Rattle.laws.specs.declared.Found.the-variants.{Nothing}
 use Rattle.laws.proofs.First.{first-start, first-more, first-found, first-end}
-use Rattle.settings.specs.Tests.{entryRight}
+use Rattle.merge_rules.specs.Settings.{entryRight}
 use Rattle.settings.proofs.first_large.Statement.{statement}
 use Rattle.settings.proofs.first_large.Tie as tie
 

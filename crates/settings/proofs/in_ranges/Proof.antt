@@ -3,7 +3,7 @@ use borrow.Author.Tests.{le-leb, lt-leb, not-true, not-false}
 use mathlib.Core.Path.{sym, _∙_}
 use Rattle.laws.proofs.Tests.{every-pass, every-stop, every-last}
 use borrow.Author.Needs.{needs}
-use Rattle.settings.specs.Tests.{inRanges}
+use Rattle.merge_rules.specs.Settings.{inRanges}
 use Rattle.settings.proofs.in_ranges.Statement.{statement}
 use Rattle.settings.proofs.in_ranges.Tie as tie
 

@@ -4,7 +4,7 @@ use mathlib.Core.Path.{sym, ap, _∙_}
 use native.Mathlib.Omega.{arith}
 use lib.Dec.{eqb}
 use Rattle.laws.proofs.Tests.{every-pass, every-stop, every-last}
-use Rattle.settings.specs.Tests.{lengthsRight}
+use Rattle.merge_rules.specs.Settings.{lengthsRight}
 use Rattle.settings.proofs.Laws.{count-small}
 use borrow.Author.Needs.{needs}
 use Rattle.settings.proofs.lengths_right.Statement.{statement}

@@ -4,7 +4,7 @@ use mathlib.Core.Path.{sym, ap, _∙_}
 use mathlib.Core.Bool.{not}
 use Rattle.laws.proofs.Tests.{every-pass, every-stop, every-last}
 use borrow.Author.Needs.{needs}
-use Rattle.settings.specs.Tests.{plain}
+use Rattle.merge_rules.specs.Settings.{plain}
 use Rattle.settings.proofs.plain.Statement.{statement}
 use Rattle.settings.proofs.plain.Tie as tie
 

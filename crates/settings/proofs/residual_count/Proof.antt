@@ -1,6 +1,6 @@
 -- `settings::residual_count` meets its contract. Assumes nothing.
 use borrow.Author.Needs.{needs}
-use Rattle.settings.specs.Tests.{residualCount}
+use Rattle.merge_rules.specs.Settings.{residualCount}
 use Rattle.settings.proofs.residual_count.Statement.{statement}
 use Rattle.settings.proofs.residual_count.Tie as tie
 

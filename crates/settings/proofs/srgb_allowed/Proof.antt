@@ -3,7 +3,7 @@ use borrow.Author.Tests.{eq-eqb, ne-eqb, not-true, not-false}
 use mathlib.Core.Path.{sym, _∙_}
 use Rattle.laws.proofs.Tests.{every-pass, every-stop, every-last}
 use borrow.Author.Needs.{needs}
-use Rattle.settings.specs.Tests.{srgbAllowed}
+use Rattle.merge_rules.specs.Settings.{srgbAllowed}
 use Rattle.settings.proofs.srgb_allowed.Statement.{statement}
 use Rattle.settings.proofs.srgb_allowed.Tie as tie
 

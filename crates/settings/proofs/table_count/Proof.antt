@@ -1,6 +1,6 @@
 -- `settings::table_count` meets its contract. Assumes nothing.
 use borrow.Author.Needs.{needs}
-use Rattle.curves.specs.Curves.{entries}
+use Rattle.merge_rules.specs.Curves.{entries}
 use Rattle.settings.proofs.table_count.Statement.{statement}
 use Rattle.settings.proofs.table_count.Tie as tie
 

@@ -9,8 +9,8 @@ use lib.ListN.{length, getD}
 use mir.Syntax.{w32, w64}
 use Rattle.laws.proofs.Integers.{back}
 use Rattle.laws.proofs.Fill.{front, front-start, front-length, front-turn, front-end}
-use Rattle.transform.specs.Zigzag.{zigzagAt}
-use Rattle.transform.specs.Picture.{timesQuantiser, dequantised}
+use Rattle.transform_rules.specs.Zigzag.{zigzagAt}
+use Rattle.transform_rules.specs.Picture.{timesQuantiser, dequantised}
 use Rattle.transform.proofs.Tables.{order-long, order-at, zigzag-small}
 use Rattle.transform.proofs.dequantise.Statement.{statement}
 use Rattle.transform.proofs.dequantise.Tie as tie

@@ -7,7 +7,7 @@ use lib.ListN.{length, getD}
 use Rattle.laws.specs.First.{firstFail}
 use Rattle.laws.specs.declared.Found.the-variants.{Nothing}
 use Rattle.laws.proofs.First.{first-start, first-more, first-found, first-end}
-use Rattle.transform.specs.Call.{isQuantiser, firstBadQuantiser}
+use Rattle.transform_rules.specs.Call.{isQuantiser, firstBadQuantiser}
 use Rattle.transform.proofs.first_bad_quantiser.Statement.{statement}
 use Rattle.transform.proofs.first_bad_quantiser.Tie as tie
 

@@ -4,7 +4,7 @@ use borrow.Author.Tests.{lt-leb, le-leb}
 use lib.Dec.{leb}
 use Rattle.laws.specs.Index.{every}
 use Rattle.laws.proofs.Tests.{every-last}
-use Rattle.transform.specs.Call.{isQuantiser}
+use Rattle.transform_rules.specs.Call.{isQuantiser}
 use Rattle.transform.proofs.is_quantiser.Statement.{statement}
 use Rattle.transform.proofs.is_quantiser.Tie as tie
 

@@ -7,7 +7,7 @@ use mir.Syntax.{w32, w64}
 use mir.Val.{SFits, toZ, ofZ}
 use mir.Facts.{toZ-ofZ, toZ-pos}
 use Rattle.laws.proofs.Integers.{abs-prod-le, fit-in, fits-abs, to64, widened}
-use Rattle.transform.specs.Picture.{timesQuantiser}
+use Rattle.transform_rules.specs.Picture.{timesQuantiser}
 use Rattle.transform.proofs.times_quantiser.Statement.{statement}
 use Rattle.transform.proofs.times_quantiser.Tie as tie
 

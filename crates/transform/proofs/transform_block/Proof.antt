@@ -3,8 +3,8 @@ use borrow.Author.Needs.{needs}
 use native.Mathlib.Omega.{arith}
 use mathlib.Core.Path.{refl, sym, subst, _∙_}
 use mir.Facts.{toZ-ofZ}
-use Rattle.kernel.specs.Samples.{Products}
-use Rattle.transform.proofs.Lengths.{dequantised-small}
+use Rattle.transform_rules.specs.Samples.{Products}
+use Rattle.transform_rules.proofs.Lengths.{dequantised-small}
 use Rattle.transform.proofs.Tables.{figure-is}
 use Rattle.transform.proofs.transform_block.Statement.{statement}
 use Rattle.transform.proofs.transform_block.Tie as tie

@@ -10,9 +10,9 @@ use mir.Syntax.{w64}
 use mir.Val.{toZ, ofZ}
 use Rattle.laws.proofs.Integers.{back}
 use Rattle.laws.proofs.Fill.{joined, joined-start, joined-length, joined-turn}
-use Rattle.kernel.specs.Samples.{blockSamples}
-use Rattle.transform.specs.Picture.{dequantised, picture}
-use Rattle.transform.proofs.Lengths.{block-length}
+use Rattle.transform_rules.specs.Samples.{blockSamples}
+use Rattle.transform_rules.specs.Picture.{dequantised, picture}
+use Rattle.transform_rules.proofs.Lengths.{block-length}
 use Rattle.transform.proofs.Tables.{centre-small}
 use Rattle.transform.proofs.transform_picture.Statement.{statement}
 use Rattle.transform.proofs.transform_picture.Tie as tie

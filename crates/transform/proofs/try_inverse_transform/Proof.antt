@@ -6,8 +6,8 @@ use Prim.Native.Nat.{ℕ}
 use lib.ListN.{drop}
 use Rattle.answers.specs.declared.Outcome.the-variants.{Given}
 use Rattle.answers.proofs.Laws.{tried-refused, tried-given}
-use Rattle.transform.specs.Picture.{picture}
-use Rattle.transform.proofs.Lengths.{picture-length}
+use Rattle.transform_rules.specs.Picture.{picture}
+use Rattle.transform_rules.proofs.Lengths.{picture-length}
 use Rattle.transform.proofs.Refusals.{refinement-over, blocks-over, values-miscounted, quantisers-miscounted, quantiser-bad, value-outside, too-short, all-given, in-range}
 use Rattle.transform.proofs.try_inverse_transform.Statement.{statement}
 use Rattle.transform.proofs.try_inverse_transform.Tie as tie

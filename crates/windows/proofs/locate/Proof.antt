@@ -1,5 +1,5 @@
 -- `windows::locate` meets its contract: the places are right of the packets met so far.
-use Rattle.packets.proofs.Walking.{met, gone}
+use Rattle.packets.proofs.Meeting.{met, gone}
 use Rattle.windows.proofs.Places.{Locating, locate-start, locate-turn, locate-end}
 use lib.ListN.{length}
 use mathlib.Core.Path.{_∙_}

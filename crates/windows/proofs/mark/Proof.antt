@@ -1,6 +1,6 @@
 -- `windows::mark` meets its contract.
 use lib.Seq.{set-out}
-use Rattle.windows.specs.Places.{marked}
+use Rattle.windows.specs.Code.{marked}
 use borrow.Author.Tests.{le-leb, lt-leb}
 use mathlib.Core.Path.{_≡_}
 use Prim.Native.Nat.{_+_, _-_}

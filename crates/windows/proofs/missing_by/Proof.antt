@@ -1,7 +1,7 @@
 -- `windows::missing_by` meets its contract: none of the numbers passed is missing.
-use Rattle.numbers.proofs.Counts.{missing-done}
+use Rattle.box_rules.proofs.Counts.{missing-done}
 use Rattle.windows.proofs.Places.{window-missing, window-index, window-passed}
-use Rattle.numbers.specs.Numbers.{numbersFrom, missingFrom}
+use Rattle.box_rules.specs.Numbers.{numbersFrom, missingFrom}
 use lib.ListN.{length}
 use mathlib.Core.Path.{_≡_, refl, sym, _∙_}
 use Prim.Native.Nat.{_+_, _-_, _≤_}

@@ -33,7 +33,7 @@ use denote.Triple.Table.{entered, cited}
 use denote.Triple.Walked.{says, Stays, stay-none, walkOf, goes-none, Walks, ends-at, walked, walk-meets}
 use denote.Exit.{yes}
 use denote.Triple.Clauses.{ensured, lasts}
-use Rattle.bits.specs.Source.{takeBit}
+use Rattle.bit_rules.specs.Source.{takeBit}
 use Rattle.bits.specs.Code.{sourceOf, takenOf}
 use Rattle.bits.specs.Held.{cursorOf}
 use Rattle.bits.specs.declared.Taken.{Taken}

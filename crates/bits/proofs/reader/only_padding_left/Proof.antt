@@ -35,7 +35,7 @@ use denote.Triple.Table.{entered, cited}
 use denote.Triple.Walked.{says, Stays, stay-none, walkOf, goes-none, Walks, ends-at, walked, walk-meets}
 use denote.Exit.{yes}
 use denote.Triple.Clauses.{ensured, lasts}
-use Rattle.bits.specs.Source.{onlyPadding}
+use Rattle.bit_rules.specs.Source.{onlyPadding}
 use Rattle.bits.specs.Code.{sourceOf}
 use Rattle.bits.specs.Held.{cursorOf}
 use Rattle.bits.specs.declared.reader.BitReader.{BitReader}

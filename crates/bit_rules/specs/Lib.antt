@@ -1,0 +1,9 @@
+pub mod Digits
+pub mod Source
+pub mod Pack
+pub mod Gives
+pub mod Read
+pub mod Table
+pub mod Words
+pub mod Write
+pub mod Reader

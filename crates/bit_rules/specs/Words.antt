@@ -1,0 +1,27 @@
+-- Reading a code, said by the words of the table alone: what comes next is the word of the value that is read, or 16 bits that no word begins.
+use mathlib.Core.Path.{_≡_}
+use mathlib.Core.Bool.{Bool}
+use mathlib.Core.List.{List, _++_}
+use Prim.Native.Nat.{ℕ}
+use lib.ListN.{length}
+use Rattle.laws.specs.declared.Found.the-variants.{At}
+use Rattle.bit_rules.specs.Source.{Source, got, stopped, stop}
+use Rattle.bit_rules.specs.Gives.{Gives}
+use Rattle.bit_rules.specs.Table.{Table}
+use Rattle.bit_rules.specs.Read.{takeCode}
+use Rattle.bit_rules.specs.Write.{placeOf, word}
+
+-- the value stands in the table
+abbrev pub Has : Table → ℕ → Type 0
+Has T v = (k : ℕ) × (placeOf v (T .values) ≡ At k)
+
+-- no value's word begins these bits
+abbrev pub NoWord : Table → List Bool → Type 0
+NoWord T bits = (v : ℕ) (rest : List Bool) → Has T v → bits ≡ word T v ++ rest → ⊥
+
+-- a value is read exactly where its word comes next; "16 bits and no code" is told exactly where 16 bits come next and no word begins them
+pub record ReadByWords (T : Table) : Type 0 where
+  pub read : (v : ℕ) (s t : Source) → takeCode T s ≡ got v t → Has T v × Gives s (word T v) t
+  pub reads : (v : ℕ) (s t : Source) → Has T v × Gives s (word T v) t → takeCode T s ≡ got v t
+  pub none : (s : Source) → takeCode T s ≡ stopped (stop 14) → (bits : List Bool) × (t : Source) × (length bits ≡ 16) × Gives s bits t × NoWord T bits
+  pub nones : (s t : Source) (bits : List Bool) → length bits ≡ 16 → Gives s bits t → NoWord T bits → takeCode T s ≡ stopped (stop 14)

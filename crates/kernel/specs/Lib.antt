@@ -1,2 +1,0 @@
-pub mod Cosines
-pub mod Samples

@@ -1,0 +1,8 @@
+pub mod PictureCases
+pub mod RoundingCases
+pub mod CurveCases
+pub mod PixelCases
+pub mod SettingCases
+pub mod Order
+pub mod SrgbRule
+pub mod CallCases

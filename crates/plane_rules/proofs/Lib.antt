@@ -1,0 +1,9 @@
+pub mod ReadCases
+pub mod AcTrip
+pub mod WriteCases
+pub mod AcTokens
+pub mod Levels
+pub mod Closing
+pub mod Ranges
+pub mod DcTrip
+pub mod Cases

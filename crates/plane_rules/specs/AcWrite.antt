@@ -1,0 +1,147 @@
+-- Writing an AC plane (01, "The writer takes level j values"): the reader's tasks, chosen by looking ahead.
+use mathlib.Core.Bool.{Bool, true, false, cond}
+use mathlib.Core.List.{List, [], _∷_, _++_, map}
+use mathlib.Core.Option.{Option, none, some}
+use Prim.Native.Nat.{ℕ, zero, suc, _+_, _-_, _*_, _/_, _^_}
+use lib.Dec.{eqb, ltb}
+use lib.IntN.{ℤ, pos, negsuc, negℤ}
+use lib.ListN.{length}
+use Rattle.laws.specs.Index.{every}
+use Rattle.laws.specs.declared.Found.{Found}
+use Rattle.laws.specs.declared.Found.the-variants.{At, Nothing}
+use Rattle.answers.specs.Verdict.{Verdict, need, unless, fitting}
+use Rattle.levels.specs.Level.{firstOutside}
+use Rattle.levels.specs.declared.Part.the-variants.{Ac}
+use Rattle.bit_rules.specs.Digits.{odd, digits}
+use Rattle.bit_rules.specs.Pack.{bytesOf}
+use Rattle.bit_rules.specs.Table.{Table, goodTable}
+use Rattle.bit_rules.specs.Write.{placeOf, word}
+use Rattle.plane_rules.specs.Plane.{writable}
+use Rattle.plane_rules.specs.Task.{Task, walk, ended, pass, over}
+use Rattle.plane_rules.specs.AcRead.{cut}
+
+-- "against their halves (.. AC toward zero)"
+unfoldable pub acHalf : ℤ → ℤ
+acHalf (pos n) = pos (n / 2)
+acHalf (negsuc n) = negℤ (pos (suc n / 2))
+
+-- a value against its half: a correction bit, or a zero that stays, or a new value with its sign
+pub data Kind : Type 0 where
+  keep : Bool → Kind
+  still : Kind
+  fresh : Bool → Kind
+
+unfoldable pub kindOf : ℤ → Kind
+kindOf (pos zero) = still
+kindOf (pos (suc zero)) = fresh true
+kindOf (pos (suc (suc n))) = keep (odd n)
+kindOf (negsuc zero) = fresh false
+kindOf (negsuc (suc n)) = keep (odd n)
+
+-- the zeros before the next new value, and its sign; nothing if no new value is left in the block
+unfoldable pub oneMore : Option (ℕ × Bool) → Option (ℕ × Bool)
+oneMore none = none
+oneMore (some p) = some (suc (p .0), p .1)
+
+unfoldable pub ahead : List Kind → Option (ℕ × Bool)
+ahead [] = none
+ahead (keep b ∷ kinds) = ahead kinds
+ahead (still ∷ kinds) = oneMore (ahead kinds)
+ahead (fresh b ∷ kinds) = some (0, b)
+
+-- "the longest end run": the blocks, from the first on, that have no new value
+abbrev pub unlessNew : Option (ℕ × Bool) → ℕ → ℕ
+unlessNew none n = suc n
+unlessNew (some p) n = 0
+
+unfoldable pub quiet : List (List Kind) → ℕ
+quiet [] = 0
+quiet (b ∷ bs) = unlessNew (ahead b) (quiet bs)
+
+-- the task where a code is needed: an end run "directly after the last new value"; "the 16-zero code only before a later new value"
+abbrev pub planned : Option (ℕ × Bool) → ℕ → Task
+planned none n = ended n
+planned (some p) n = cond (ltb (p .0) 16) (walk (p .0) (some (p .1))) (walk 15 none)
+
+unfoldable pub plan : List Kind → List (List Kind) → Task
+plan kinds later = planned (ahead kinds) (quiet later)
+
+-- what is written: a code's value, or a bit
+pub data Token : Type 0 where
+  code : ℕ → Token
+  raw : Bool → Token
+
+-- the highest r, up to 14, with 2^r at most n
+unfoldable pub order : ℕ → ℕ → ℕ
+order zero n = 0
+order (suc most) n = cond (ltb n 2) 0 (suc (order most (n / 2)))
+
+abbrev pub class : ℕ → ℕ
+class n = order 14 n
+
+unfoldable pub emit : Task → List Token
+emit (walk n none) = code (16 * n) ∷ []
+emit (walk n (some b)) = code (16 * n + 1) ∷ raw b ∷ []
+emit (ended n) = code (16 * class (suc n)) ∷ map raw (digits (class (suc n)) (suc n - 2 ^ class (suc n)))
+
+-- at a position: the task there, and the code that tells it if one is needed
+abbrev pub choose : Option Task → List Kind → List (List Kind) → Task
+choose none kinds later = plan kinds later
+choose (some t) kinds later = t
+
+abbrev pub tell : Option Task → Task → List Token
+tell none t = emit t
+tell (some u) t = []
+
+abbrev pub mark : Kind → List Token
+mark (keep b) = raw b ∷ []
+mark still = []
+mark (fresh b) = []
+
+abbrev pub after : Task → Kind → Option Task
+after t (keep b) = some t
+after t still = pass t
+after t (fresh b) = pass t
+
+-- a block from here on, before those that are later: its tokens, and the task that the next block begins with
+unfoldable pub writeBlock : Option Task → List Kind → List (List Kind) → List Token × Option Task
+writeBlock o [] later = ([], over o)
+writeBlock o (x ∷ kinds) later =
+    let t : Task = choose o (x ∷ kinds) later in
+    let r : List Token × Option Task = writeBlock (after t x) kinds later in
+    (tell o t ++ (mark x ++ r .0), r .1)
+
+unfoldable pub writeBlocks : Option Task → List (List Kind) → List Token
+writeBlocks o [] = []
+writeBlocks o (b ∷ bs) = let r : List Token × Option Task = writeBlock o b bs in r .0 ++ writeBlocks (r .1) bs
+
+unfoldable pub tokens : ℕ → List ℤ → List Token
+tokens blocks values = writeBlocks none (map (map kindOf) (cut blocks values))
+
+-- "19: writer's table lacks a code: the code's value", "first needed in writing order"
+abbrev pub orElse : ℕ → Found → Found → Found
+orElse v Nothing rest = At v
+orElse v (At k) rest = rest
+
+unfoldable pub lacking : Table → List Token → Found
+lacking T [] = Nothing
+lacking T (raw b ∷ rest) = lacking T rest
+lacking T (code v ∷ rest) = orElse v (placeOf v (T .values)) (lacking T rest)
+
+unfoldable pub spelled : Table → List Token → List Bool
+spelled T [] = []
+spelled T (raw b ∷ rest) = b ∷ spelled T rest
+spelled T (code v ∷ rest) = word T v ++ spelled T rest
+
+abbrev pub acBytes : ℕ → Table → List ℤ → List ℕ
+acBytes blocks T values = bytesOf (spelled T (tokens blocks values))
+
+-- writing: 20, 21, 10, 11, 19, 9
+unfoldable pub writeAc : ℕ → ℕ → Table → List ℤ → ℕ → Verdict ℕ
+writeAc plane blocks T values room =
+    need (every (writable plane blocks)) 20 0
+    (need (eqb (length values) (63 * blocks)) 21 0
+    (need (goodTable T) 10 0
+    (unless 11 (firstOutside Ac plane values)
+    (unless 19 (lacking T (tokens blocks values))
+    (fitting room (acBytes blocks T values))))))

@@ -1,3 +1,0 @@
-pub mod Zigzag
-pub mod Picture
-pub mod Call

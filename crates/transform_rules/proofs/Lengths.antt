@@ -1,0 +1,44 @@
+-- How long and how large the dequantised block is, and how long its samples and the picture are. Assumes nothing.
+use mathlib.Core.Path.{_≡_}
+use mathlib.Core.Logic.{⊎-elim}
+use mathlib.Core.List.{List}
+use Prim.Native.Nat.{ℕ, _+_, _*_, _^_, _<_, _≤_}
+use native.Mathlib.Nat.{le-trans}
+use native.Mathlib.Omega.{arith}
+use lib.IntN.{ℤ, pos, natAbs}
+use lib.ListN.{length, getD, List·getD-eq-default}
+use Rattle.laws.specs.Index.{tab}
+use Rattle.laws.proofs.Integers.{abs-prod-le, split}
+use Rattle.laws.proofs.Lists.{length-tab, getD-tab, join-length}
+use Rattle.transform_rules.specs.Samples.{blockSamples, Products}
+use Rattle.transform_rules.specs.Zigzag.{zigzagAt}
+use Rattle.transform_rules.specs.Picture.{timesQuantiser, dequantised, centre, picture, InRange}
+
+pub block-length : (s : List ℤ) (middle : ℤ) → length (blockSamples s middle) ≡ 64
+unfolding blockSamples
+block-length s middle = length-tab 64 _
+
+pub picture-length : (refinement blocks : ℕ) (values : List ℤ) (quantisers : List ℕ) → length (picture refinement blocks values quantisers) ≡ blocks * 64
+unfolding picture
+picture-length refinement blocks values quantisers = join-length 64 blocks _ (λ block. block-length (dequantised values quantisers block) (centre refinement))
+
+module _ (values : List ℤ) (quantisers : List ℕ) (block : ℕ) (h : InRange values quantisers) where
+  one : ℕ → ℤ
+  one p = timesQuantiser (getD values (block * 64 + zigzagAt p) (pos 0)) (getD quantisers (zigzagAt p) 0)
+
+  one-small : (p : ℕ) → natAbs (one p) ≤ 2 ^ 23
+  unfolding one timesQuantiser
+  one-small p =
+      let i = block * 64 + zigzagAt p in
+      let z = zigzagAt p in
+      le-trans (abs-prod-le (getD values i (pos 0)) (pos (getD quantisers z 0)) 32768 255 (h .valued i) (h .quantised z)) (omega arith)
+
+  pub dequantised-small : Products (dequantised values quantisers block)
+  unfolding dequantised one
+  dequantised-small = record { long = length-tab 64 one; small = each-small }
+    where
+      each-small : (k : ℕ) → natAbs (getD (tab 64 one) k (pos 0)) ≤ 2 ^ 23
+      each-small k =
+          ⊎-elim (λ (l : k < 64). rw (getD-tab 64 one (pos 0) k l) (one-small k))
+          (λ (l : 64 ≤ k). rw (List·getD-eq-default (tab 64 one) (pos 0) {n = k} (omega (arith, length-tab 64 one))) (omega arith))
+          (split k 64)

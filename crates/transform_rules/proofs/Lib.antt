@@ -1,0 +1,3 @@
+pub mod TransformCases
+pub mod Lengths
+pub mod KernelCases
