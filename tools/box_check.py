@@ -1,6 +1,6 @@
 #!/usr/bin/env python3
 """box_check: random files with fill, strangers, shuffles, repeats, gaps, damage and cuts; what target/bin/box_out and
-target/bin/listing write is held to a second reading of document 01, written here. Prints how often each number was met.
+target/bin/listing write is held to a second reading of the rules (docs/RULES.md, W and P), written here. Prints how often each number was met.
 Run `rt check box_out listing` first.  box_check.py [FILES] [SEED]"""
 import collections, platform, random, struct, subprocess, sys
 

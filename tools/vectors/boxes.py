@@ -1,6 +1,6 @@
 #!/usr/bin/env python3
 """boxes.py STDIN STDOUT: makes the vectors of boxes that crates/box_vectors runs and what it must print: files in order, shuffled, with several
-instances, strangers, fill, broken heads, damage and cuts, by the second reading of document 01 in tools/box_check.py, and the bundled picture of the reference software.
+instances, strangers, fill, broken heads, damage and cuts, by the second reading of the rules in tools/box_check.py, and the bundled picture of the reference software.
 A record is type, instance, room, the file, and the number, place and bytes expected."""
 import os, random, struct, sys
 from fields import lent, numbers, write

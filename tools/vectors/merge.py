@@ -1,5 +1,5 @@
 #!/usr/bin/env python3
-"""Cases for the merge (01, "Merge") with exact fractions, written from the paper and from nothing else.
+"""Cases for the merge (docs/RULES.md, M) with exact fractions, written from the rules and from nothing else.
 
   merge.py CASES LINES     writes the cases (their number, then each: fourteen numbers, nine weights, three lists) and the lines that are expected
 

@@ -1,4 +1,4 @@
-"""Refinement planes by document 01 and T.81 (Annexes C, F, G), in exact integers: an independent program, written from the rules and code by
+"""Refinement planes by docs/RULES.md (R, E) and T.81 (Annexes C, F, G), in exact integers: an independent program, written from the rules and code by
 code, not position by position. Each call gives (number, place, output); output is None on a refusal."""
 
 

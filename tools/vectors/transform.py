@@ -1,11 +1,11 @@
 #!/usr/bin/env python3
-"""transform.py: blocks and refusals for the inverse transform, computed here by the rule of document 01 and T.81 alone.
+"""transform.py: blocks and refusals for the inverse transform, computed here by the rules (docs/RULES.md, T) and T.81 alone.
 
   python3 tools/vectors/transform.py            writes crates/transform_vectors/stdin and stdout
   python3 tools/vectors/transform.py --check    only says whether the two files are what it would write
 
 Nothing is taken from crates/: the zigzag order is walked step by step, each kernel entry is the rounded cosine of T.81's formula
-itself (which must be one of 01's nine values up to its sign), the sums are exact integers, and each sample is also held to
+itself (which must be one of the nine values of T7 up to its sign), the sums are exact integers, and each sample is also held to
 T.81's real formula.
 
 A record is R, blocks, room, number and place to be answered; the values; the quantisers; and what the call must hand out. Before it, the destination holds sevens."""
@@ -57,7 +57,7 @@ def real(s, x, y, r):
 
 
 def samples(r, values, quantisers):
-    """01, "Inverse transform", for one block, and a look at T.81's own formula beside it."""
+    """The rules T6 to T9 for one block, and a look at T.81's own formula beside it."""
     s = [[0] * 8 for _ in range(8)]
     for i, (v, u) in enumerate(WALK):
         s[v][u] = values[i] * quantisers[i]
@@ -77,7 +77,7 @@ def in_range(level, i, value):
 
 
 def answer(r, blocks, values, quantisers, room):
-    """Number, place and what is handed out, the refusals in 01's order: 20, 21, 22, 11, 9."""
+    """Number, place and what is handed out, the refusals in their order (N9): 20, 21, 22, 11, 9."""
     refused = lambda number, place: (number, place, [])
     if r > 4 or blocks > 1024:
         return refused(20, 0)
