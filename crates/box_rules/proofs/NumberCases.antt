@@ -1,11 +1,12 @@
 -- 6 and 7, worked out by hand and computed: 0, the largest number, the smallest of two, and both sides of 1..n.
 use Prim.Native.Nat.{ℕ}
 use mathlib.Core.Path.{_≡_, refl}
-use mathlib.Core.List.{[], _∷_}
+use mathlib.Core.List.{List, [], _∷_}
 use mathlib.Core.Bool.{true, false}
 use Rattle.laws.specs.declared.Found.the-variants.{At, Nothing}
-use Rattle.box_rules.specs.Packets.{Packet}
-use Rattle.box_rules.specs.Numbers.{numbers, count, least, firstTwice, missingFrom, firstMissing, within, between}
+use Rattle.box_rules.specs.Packets.{Packet, packetsIn, isMine, mine, mineFrom}
+use Rattle.box_rules.specs.Walk.{be16, be32, headAt, ones, barred, tagged, packetAt, wholeAt, sizedAt, markedAt, stepAt, stepsIn, stepsFrom}
+use Rattle.box_rules.specs.Numbers.{numbers, numbersFrom, count, least, firstTwice, missingFrom, firstMissing, within, between}
 
 -- a packet whose numbers all differ but its sequence number
 abbrev numbered : ℕ → Packet
@@ -14,6 +15,21 @@ numbered q = record { head = record { instance = 11; number = q; stated = 12; he
 pub in-file-order : numbers (numbered 3 ∷ numbered 0 ∷ numbered 3 ∷ []) ≡ 3 ∷ 0 ∷ 3 ∷ []
 unfolding numbers
 in-file-order = refl
+
+-- how often a number stands
+pub counts : (count 3 [] ≡ 0) × (count 3 (1 ∷ 2 ∷ []) ≡ 0) × (count 3 (3 ∷ 1 ∷ []) ≡ 1) × (count 3 (3 ∷ 1 ∷ 3 ∷ 3 ∷ []) ≡ 3)
+unfolding count
+counts = (refl, refl, refl, refl)
+
+-- a packet of a type and instance of one byte each, with a number and no payload, in front of what follows
+abbrev packet : ℕ → ℕ → ℕ → List ℕ → List ℕ
+packet kind instance q r =
+    0xFF ∷ 0xEB ∷ 0x00 ∷ 0x12 ∷ 0x4A ∷ 0x50 ∷ 0x00 ∷ instance ∷ 0 ∷ 0 ∷ 0 ∷ q ∷ 0 ∷ 0 ∷ 0 ∷ 8 ∷ 0 ∷ 0 ∷ 0 ∷ kind ∷ r
+
+-- of four packets, types 7, 9, 7, 7 and instances 9, 7, 9, 8, those of type 7 and instance 9 are the first and the third
+pub of-one-box : numbersFrom (0xFF ∷ 0xD8 ∷ packet 7 9 4 (packet 9 7 5 (packet 7 9 6 (packet 7 8 3 (0xFF ∷ 0xDA ∷ []))))) 7 9 2 ≡ 4 ∷ 6 ∷ []
+unfolding be16 be32 headAt ones barred tagged packetAt wholeAt sizedAt markedAt stepAt stepsIn stepsFrom packetsIn isMine mine mineFrom numbers numbersFrom
+of-one-box = refl
 
 -- 6, "a sequence number stands twice": "the smallest such"
 pub twice : (firstTwice [] ≡ Nothing)

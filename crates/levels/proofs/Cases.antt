@@ -7,7 +7,7 @@ use lib.IntN.{ℤ, pos, negsuc}
 use lib.ListN.{replicate}
 use Rattle.laws.specs.First.{firstFail, orHere}
 use Rattle.laws.specs.declared.Found.the-variants.{At, Nothing}
-use Rattle.levels.specs.Level.{inLevel, isDc, inside, firstOutside}
+use Rattle.levels.specs.Level.{inLevel, isDc, inside, firstOutside, between}
 use Rattle.levels.specs.declared.Part.the-variants.{Dc, Ac, Whole}
 
 -- "DC in -2^(11+j) to 2^(11+j)-1": at levels 0 and 4
@@ -34,3 +34,8 @@ pub first-places : (firstOutside Dc 0 (pos 0 ∷ negsuc 2047 ∷ pos 5000 ∷ ne
     × (firstOutside Ac 1 (pos 4095 ∷ []) ≡ Nothing)
 unfolding inLevel isDc inside firstOutside firstFail orHere
 first-places = (refl, refl, refl, refl)
+
+-- between -3 and 2, neither of which is: the value at its index
+pub betweens : map (between (negsuc 2) (pos 2) (negsuc 2 ∷ negsuc 1 ∷ pos 1 ∷ pos 2 ∷ [])) (0 ∷ 1 ∷ 2 ∷ 3 ∷ []) ≡ false ∷ true ∷ true ∷ false ∷ []
+unfolding between
+betweens = refl

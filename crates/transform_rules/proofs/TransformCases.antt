@@ -12,7 +12,7 @@ use Rattle.answers.specs.Verdict.{given, refused, refusal}
 use Rattle.levels.specs.Level.{inLevel, isDc, inside, firstOutside}
 use Rattle.transform_rules.specs.Cosines.{nineCosines, halfTurn, fullTurn, kernel}
 use Rattle.transform_rules.specs.Samples.{product, rowSum, doubleSum, rounded, sample, blockSamples}
-use Rattle.transform_rules.specs.Zigzag.{firstRow, lastRow, placesBefore, zigzag, zigzagAt}
+use Rattle.transform_rules.specs.Zigzag.{firstRow, lastRow, placesBefore, zigzag, zigzagAt, zigzagOrder}
 use Rattle.transform_rules.specs.Picture.{timesQuantiser, dequantised, centre, picture}
 use Rattle.transform_rules.specs.Call.{isQuantiser, firstBadQuantiser, inverseTransform}
 
@@ -31,6 +31,20 @@ pub zigzag-told : map (λ (p : ℕ × ℕ). zigzag (p .0) (p .1)) ((0, 0) ∷ (0
     ≡ 0 ∷ 1 ∷ 2 ∷ 3 ∷ 4 ∷ 5 ∷ 28 ∷ 35 ∷ 62 ∷ 61 ∷ 63 ∷ []
 unfolding zigzag placesBefore firstRow lastRow
 zigzag-told = refl
+
+-- T.81, Figure 5, row by row as it is printed
+pub zigzag-printed : zigzagOrder ≡
+    0 ∷ 1 ∷ 5 ∷ 6 ∷ 14 ∷ 15 ∷ 27 ∷ 28
+    ∷ 2 ∷ 4 ∷ 7 ∷ 13 ∷ 16 ∷ 26 ∷ 29 ∷ 42
+    ∷ 3 ∷ 8 ∷ 12 ∷ 17 ∷ 25 ∷ 30 ∷ 41 ∷ 43
+    ∷ 9 ∷ 11 ∷ 18 ∷ 24 ∷ 31 ∷ 40 ∷ 44 ∷ 53
+    ∷ 10 ∷ 19 ∷ 23 ∷ 32 ∷ 39 ∷ 45 ∷ 52 ∷ 54
+    ∷ 20 ∷ 22 ∷ 33 ∷ 38 ∷ 46 ∷ 51 ∷ 55 ∷ 60
+    ∷ 21 ∷ 34 ∷ 37 ∷ 47 ∷ 50 ∷ 56 ∷ 59 ∷ 61
+    ∷ 35 ∷ 36 ∷ 48 ∷ 49 ∷ 57 ∷ 58 ∷ 62 ∷ 63
+    ∷ []
+unfolding zigzagOrder tab zigzagAt zigzag placesBefore firstRow lastRow
+zigzag-printed = refl
 
 -- "Let S be the value times its quantiser."
 pub times : timesQuantiser (negsuc 2) 5 ≡ negsuc 14
