@@ -26,7 +26,7 @@ use Rattle.merge_rules.specs.Curves.{straight, curved, entries}
 use Rattle.merge_rules.specs.Pixels.{each, both, component}
 use Rattle.merge_rules.specs.Steps.{tinted, tints, transform, recolour, firstCentre, stepOne, stepTwo, matrixed, stepThree, scaled, stepFour, added, alone, withResidual, stepFive, basis, merged}
 use Rattle.merge_rules.specs.Settings.{inRanges, plain, srgbAllowed, residualCount, lengthsRight}
-use Rattle.merge_rules.specs.Picture.{pixelAt, mergedAt, planes, mergedPicture, merge}
+use Rattle.merge_rules.specs.Picture.{pixelAt, mergedAt, planes, mergedPicture, merge, mergeTests}
 use Rattle.demands.specs.Cases.{resultOf, WhiteboardHolds}
 
 pub whiteboard-holds : WhiteboardHolds
@@ -38,5 +38,5 @@ unfolding resultOf sumTo tab joinTo every firstFail orHere inLevel isDc inside f
     nineCosines halfTurn fullTurn kernel product rowSum doubleSum rounded sample blockSamples firstRow lastRow placesBefore zigzag zigzagAt
     blocks.timesQuantiser dequantised centre blocks.picture isQuantiser firstBadQuantiser inverseTransform
     nearest clip row straight curved entries each both component tinted tints transform recolour firstCentre stepOne stepTwo matrixed stepThree scaled
-    stepFour added alone withResidual stepFive basis merged inRanges plain srgbAllowed residualCount lengthsRight pixelAt mergedAt planes mergedPicture merge
+    stepFour added alone withResidual stepFive basis merged inRanges plain srgbAllowed residualCount lengthsRight pixelAt mergedAt planes mergedPicture merge mergeTests
 whiteboard-holds = refl

@@ -34,7 +34,7 @@ use Rattle.merge_rules.specs.Near.{top}
 use Rattle.merge_rules.specs.declared.Setting.{Setting}
 use Rattle.merge_rules.specs.Settings.{inRanges, plain, srgbAllowed, samples, lengthsRight, entryRight}
 use Rattle.merge_rules.specs.Picture as merging
-use Rattle.merge_rules.specs.Picture.{merge}
+use Rattle.merge_rules.specs.Picture.{merge, mergeTests}
 use Rattle.merge_rules.proofs.Order.{picture-long}
 use Rattle.merge_rules.specs.Call.{matrixCount, settingNumber, mergeCall}
 use Rattle.demands.specs.One.{Rows, row, rows, stands, _then_, failing, needed, First, FirstLacking, boxRows, packetRows, listRows, dcReadRows, acReadRows, dcWriteRows, acWriteRows, transformRows, mergeRows, mergeCallRows, DemandOne}
@@ -218,14 +218,14 @@ module _ (s : Setting) (pixels : ℕ) (base residual : List ℤ) (table : List �
       failing-judged (lengthsRight s pixels base residual table) 21 _ λ h.
       unless-judged (First (length table) (entryRight (top (s .rb)) table)) 11 (firstFail (length table) (entryRight (top (s .rb)) table)) _
       (first-index (length table) (entryRight (top (s .rb)) table)) (index-first (length table) (entryRight (top (s .rb)) table)) λ o.
-      fitting-judged room (samples s pixels) (merging.mergedPicture s pixels base residual table) (picture-long s pixels base residual table room)
+      fitting-judged room (samples s pixels) (merging.mergedPicture s pixels base residual table) (picture-long s pixels base residual table)
 
   pub lent-merge : inRanges s pixels ≡ true → plain s ≡ true → srgbAllowed s ≡ true → merge s pixels base residual table room ≡ lentMerge
-  unfolding merge
+  unfolding merge mergeTests
   lent-merge a b c = rw (a, b, c)
 
   pub merge-judged : Judged (mergeRows s pixels base residual table room) room (merge s pixels base residual table room)
-  unfolding merge mergeRows
+  unfolding merge mergeTests mergeRows
   merge-judged = failing-judged (inRanges s pixels) 20 _ λ e. failing-judged (plain s) 20 _ λ f. failing-judged (srgbAllowed s) 20 _ λ g. lent-judged
 
   -- the call for C and Rust tests the same, and the matrix's length behind the settings
@@ -234,7 +234,7 @@ module _ (s : Setting) (pixels : ℕ) (base residual : List ℤ) (table : List �
     measured = eqb (length matrix) (matrixCount (s .matrix))
 
     pub call-is : mergeCall named s pixels base residual table matrix room ≡ need named 20 0 (need (inRanges s pixels) 20 0 (need (plain s) 20 0 (need (srgbAllowed s) 20 0 (need measured 21 0 lentMerge))))
-    unfolding mergeCall settingNumber every merge
+    unfolding mergeCall settingNumber every merge mergeTests
     call-is = go named (inRanges s pixels) (plain s) (srgbAllowed s) measured
       where
         go : (a b c d e : Bool) → need (eqb (cond (every (a ∷ b ∷ c ∷ d ∷ [])) (cond e 0 21) 20) 0) (cond (every (a ∷ b ∷ c ∷ d ∷ [])) (cond e 0 21) 20) 0 (need b 20 0 (need c 20 0 (need d 20 0 lentMerge)))

@@ -31,7 +31,7 @@ use Rattle.transform_rules.specs.Call.{firstBadQuantiser, inverseTransform}
 use Rattle.merge_rules.specs.Near.{top}
 use Rattle.merge_rules.specs.declared.Setting.{Setting}
 use Rattle.merge_rules.specs.Settings.{inRanges, plain, srgbAllowed, lengthsRight, entryRight}
-use Rattle.merge_rules.specs.Picture.{mergedPicture, merge}
+use Rattle.merge_rules.specs.Picture.{mergedPicture, merge, mergeTests}
 use Rattle.merge_rules.specs.Call.{matrixCount, mergeCall}
 use Rattle.demands.specs.One.{Rows}
 use Rattle.demands.specs.Two.{Exactly, Listed, DcRefined, AcRefined, DcCoded, AcCoded, Sampled, Merged, MergeCalled, DemandTwo}
@@ -188,7 +188,7 @@ module _ (refinement blocks : ℕ) (values : List ℤ) (quantisers : List ℕ) (
 
 module _ (s : Setting) (pixels : ℕ) (base residual : List ℤ) (table : List ℕ) (room : ℕ) where
   merged : (ys : List ℕ) → merge s pixels base residual table room ≡ given ys → Merged s pixels base residual table room ys
-  unfolding merge
+  unfolding merge mergeTests
   merged ys e =
       let a = need-given (inRanges s pixels) 20 0 _ ys e in
       let b = need-given (plain s) 20 0 _ ys (a .1) in
@@ -199,7 +199,7 @@ module _ (s : Setting) (pixels : ℕ) (base residual : List ℤ) (table : List �
       record { ranges = a .0; one = b .0; srgb = c .0; lengths = d .0; entries = q .0; results = h .0; fits = h .1 }
 
   merged-given : (ys : List ℕ) → Merged s pixels base residual table room ys → merge s pixels base residual table room ≡ given ys
-  unfolding merge
+  unfolding merge mergeTests
   merged-given ys h =
       rw (h .ranges, h .one, h .srgb, h .lengths, h .entries) (fits-given room (mergedPicture s pixels base residual table) ys (h .results) (h .fits))
 

@@ -10,6 +10,7 @@ ghost use Rattle.pixel.specs.Code.{samplesOf};
 ghost use Rattle.merge_rules.specs.Settings.{samples};
 ghost use Rattle.settings.specs.Code.{Passed, Lending};
 ghost use Rattle.merge_rules.specs.Picture.{mergedAt, mergedPicture, merge};
+ghost use Rattle.merge.specs.Code.{Tested};
 
 // Pixel p of the result, for one component.
 fn one_at(
@@ -202,16 +203,16 @@ fn fill(
     }
 }
 
-// The refusals in their order, then the picture. A refusal may leave anything in the destination.
-fn try_merge(
+// The tests in their order, for a result of one sample a component and pixel: how many samples that is, or the first refusal.
+fn tested(
     s: merge_rules::Setting,
     pixels: usize,
     base: &[i32],
     residual: &[i32],
     table: &[u16],
-    destination: &mut [u16],
+    room: usize,
 ) -> answers::Outcome
-    ensures { λ r. ⌜ Tried 0 (merge s pixels (now (base .entry)) (now (residual .entry)) (now (table .entry)) (length (now (destination .entry)))) (now (destination .entry)) (now (destination .exit)) r ⌝ }
+    ensures { λ r. ⌜ Tested s pixels (now (base .entry)) (now (residual .entry)) (now (table .entry)) room r ⌝ }
 {
     if !settings::in_ranges(s, pixels) {
         return answers::refuse(20, 0);
@@ -230,11 +231,29 @@ fn try_merge(
         return answers::refuse(11, i);
     }
     let count = (s.components as usize) * pixels;
-    if destination.len() < count {
+    if room < count {
         return answers::refuse(9, count);
     }
-    fill(s, pixels, base, residual, table, destination);
     answers::Outcome::Given(count)
+}
+
+// The tests, then the picture. A refusal may leave anything in the destination.
+fn try_merge(
+    s: merge_rules::Setting,
+    pixels: usize,
+    base: &[i32],
+    residual: &[i32],
+    table: &[u16],
+    destination: &mut [u16],
+) -> answers::Outcome
+    ensures { λ r. ⌜ Tried 0 (merge s pixels (now (base .entry)) (now (residual .entry)) (now (table .entry)) (length (now (destination .entry)))) (now (destination .entry)) (now (destination .exit)) r ⌝ }
+{
+    let o = tested(s, pixels, base, residual, table, destination.len());
+    if let answers::Outcome::Refused(_) = o {
+        return o;
+    }
+    fill(s, pixels, base, residual, table, destination);
+    o
 }
 
 // The merge: a number and a place, and the picture or zeros in the destination.

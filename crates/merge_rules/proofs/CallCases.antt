@@ -15,7 +15,7 @@ use Rattle.merge_rules.specs.declared.Matrix.the-variants.{None, On}
 use Rattle.merge_rules.specs.declared.Residual.the-variants.{Absent, Present}
 use Rattle.merge_rules.specs.declared.Setting.{Setting}
 use Rattle.merge_rules.specs.Settings.{inRanges, plain, srgbAllowed, residualCount, lengthsRight, entryRight}
-use Rattle.merge_rules.specs.Picture.{planes, mergedPicture, merge}
+use Rattle.merge_rules.specs.Picture.{planes, mergedPicture, merge, mergeTests}
 use Rattle.merge_rules.specs.Call.{colourOf, curveOf, matrixOf, residualOf, known, matrixCount, weightsOf, settingOf, settingNumber, mergeCall}
 
 -- "0 identity, 1 the YCbCr transform", "0 straight, 1 lent table, 2 inverse sRGB", "0 none, 1 the nine weights", "0 none, 1 lent"
@@ -98,6 +98,6 @@ large = 0 ∷ 0 ∷ 0 ∷ replicate 253 512
 
 pub calls : map (λ (p : Bool × ℕ × List ℤ). mergeCall (p .0) (settingOf (p .1) 0 0 3 0 1 0 [] 0 0) 0 [] [] large (p .2) 0) ((false, 1, nine) ∷ (true, 1, nine) ∷ (true, 1, []) ∷ (true, 2, []) ∷ [])
     ≡ refused (refusal 20 0) ∷ refused (refusal 21 0) ∷ refused (refusal 11 3) ∷ given [] ∷ []
-unfolding large nine mergeCall settingNumber matrixCount settingOf colourOf curveOf matrixOf residualOf weightsOf merge mergedPicture planes joinTo tab every firstFail orHere
+unfolding large nine mergeCall settingNumber matrixCount settingOf colourOf curveOf matrixOf residualOf weightsOf merge mergeTests mergedPicture planes joinTo tab every firstFail orHere
     inRanges plain srgbAllowed residualCount lengthsRight entryRight entries
 calls = refl

@@ -20,7 +20,7 @@ use Rattle.merge_rules.specs.declared.Residual.the-variants.{Absent, Pre
 use Rattle.merge_rules.specs.Pixels.{single, triple, each, both, component}
 use Rattle.merge_rules.specs.Steps.{recolour, firstCentre, stepOne, stepTwo, weighted, matrixed, stepThree, scaled, stepFour, added, alone, withResidual, stepFive, basis, merged}
 use Rattle.merge_rules.specs.Settings.{inRanges, plain, srgbAllowed, residualCount, lengthsRight, entryRight}
-use Rattle.merge_rules.specs.Picture.{pixelAt, mergedAt, planes, mergedPicture, merge}
+use Rattle.merge_rules.specs.Picture.{pixelAt, mergedAt, planes, mergedPicture, merge, mergeTests}
 
 -- Rb, Rh and Rr alike, so that straight and the scaling leave each number; a matrix that hands each component on to the one before
 pub turning : Matrix → Residual → Setting
@@ -68,7 +68,7 @@ planes-told = refl
 pub picture-told : map (λ (p : Matrix × Residual × List ℤ). merge (turning (p .0) (p .1)) 2 (pos 1 ∷ pos 2 ∷ pos 3 ∷ pos 4 ∷ pos 5 ∷ pos 6 ∷ []) (p .2) [] 7)
     ((None, Absent, []) ∷ (On, Absent, []) ∷ (On, Present, pos 2058 ∷ pos 2068 ∷ pos 2078 ∷ pos 2088 ∷ pos 2098 ∷ pos 2108 ∷ []) ∷ [])
     ≡ given (1 ∷ 2 ∷ 3 ∷ 4 ∷ 5 ∷ 6 ∷ []) ∷ given (3 ∷ 4 ∷ 5 ∷ 6 ∷ 1 ∷ 2 ∷ []) ∷ given (13 ∷ 24 ∷ 35 ∷ 46 ∷ 51 ∷ 62 ∷ []) ∷ []
-unfolding turning merge mergedPicture planes mergedAt pixelAt joinTo tab every firstFail orHere inRanges plain srgbAllowed residualCount lengthsRight entryRight entries
+unfolding turning merge mergeTests mergedPicture planes mergedAt pixelAt joinTo tab every firstFail orHere inRanges plain srgbAllowed residualCount lengthsRight entryRight entries
     merged basis stepOne stepTwo stepThree stepFour stepFive recolour firstCentre curved straight matrixed weighted scaled withResidual alone added each both component nearest row clip
 picture-told = refl
 
@@ -80,16 +80,16 @@ pub one-fault-first : map (λ (p : Setting × List ℤ × List ℕ). merge (p .0
     ((single-by 0 Table None, [], large) ∷ (single-by 1 Table On, [], large) ∷ (single-by 7 Srgb None, [], large) ∷ (single-by 1 Table None, [], large)
     ∷ (single-by 1 Table None, pos 5 ∷ [], large) ∷ (single-by 1 Table None, pos 5 ∷ [], replicate 256 511) ∷ [])
     ≡ refused (refusal 20 0) ∷ refused (refusal 20 0) ∷ refused (refusal 20 0) ∷ refused (refusal 21 0) ∷ refused (refusal 11 3) ∷ refused (refusal 9 1) ∷ []
-unfolding large single-by merge mergedPicture planes mergedAt pixelAt joinTo tab every firstFail orHere inRanges plain srgbAllowed residualCount lengthsRight entryRight entries
+unfolding large single-by merge mergeTests mergedPicture planes mergedAt pixelAt joinTo tab every firstFail orHere inRanges plain srgbAllowed residualCount lengthsRight entryRight entries
     merged basis stepOne stepTwo stepThree stepFour stepFive recolour firstCentre curved matrixed scaled withResidual alone each component nearest clip
 one-fault-first = refl
 
 -- 9's place is all samples of the picture, and as much room is enough; 11 holds with no pixels too
 pub room-edges : map (λ room. merge (turning None Absent) 1 (pos 7 ∷ pos 8 ∷ pos 9 ∷ []) [] [] room) (2 ∷ 3 ∷ []) ≡ refused (refusal 9 3) ∷ given (7 ∷ 8 ∷ 9 ∷ []) ∷ []
-unfolding turning merge mergedPicture planes mergedAt pixelAt joinTo tab every firstFail orHere inRanges plain srgbAllowed residualCount lengthsRight entryRight entries
+unfolding turning merge mergeTests mergedPicture planes mergedAt pixelAt joinTo tab every firstFail orHere inRanges plain srgbAllowed residualCount lengthsRight entryRight entries
     merged basis stepOne stepTwo stepThree stepFour stepFive recolour firstCentre curved straight matrixed scaled withResidual alone each component nearest clip
 room-edges = refl
 
 pub no-pixels : map (λ (p : ℕ × List ℕ). merge (single-by (p .0) Table None) 0 [] [] (p .1) 0) ((1, large) ∷ (2, large) ∷ []) ≡ refused (refusal 11 3) ∷ given [] ∷ []
-unfolding large single-by merge mergedPicture planes joinTo tab every firstFail orHere inRanges plain srgbAllowed residualCount lengthsRight entryRight entries
+unfolding large single-by merge mergeTests mergedPicture planes joinTo tab every firstFail orHere inRanges plain srgbAllowed residualCount lengthsRight entryRight entries
 no-pixels = refl

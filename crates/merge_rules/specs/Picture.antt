@@ -35,11 +35,15 @@ mergedPicture s pixels base residual table = planes (s .components) pixels (merg
 
 -- ---- the call: "Merge: 20, 21, 11, 9"
 
-unfoldable pub merge : Setting → ℕ → List ℤ → List ℤ → List ℕ → ℕ → Verdict ℕ
-merge s pixels base residual table room =
+-- its tests in their order, in front of a result, however that is laid out
+unfoldable pub mergeTests : Setting → ℕ → List ℤ → List ℤ → List ℕ → ℕ → List ℕ → Verdict ℕ
+mergeTests s pixels base residual table room result =
     need (inRanges s pixels) 20 0
     (need (plain s) 20 0
     (need (srgbAllowed s) 20 0
     (need (lengthsRight s pixels base residual table) 21 0
     (unless 11 (firstFail (length table) (entryRight (top (s .rb)) table))
-    (fitting room (mergedPicture s pixels base residual table))))))
+    (fitting room result)))))
+
+unfoldable pub merge : Setting → ℕ → List ℤ → List ℤ → List ℕ → ℕ → Verdict ℕ
+merge s pixels base residual table room = mergeTests s pixels base residual table room (mergedPicture s pixels base residual table)

@@ -27,7 +27,7 @@ use Rattle.transform_rules.specs.Picture.{picture}
 use Rattle.transform_rules.specs.Call.{isQuantiser, firstBadQuantiser, inverseTransform}
 use Rattle.merge_rules.specs.Curves.{entries}
 use Rattle.merge_rules.specs.Settings.{inRanges, plain, srgbAllowed, residualCount, lengthsRight, entryRight}
-use Rattle.merge_rules.specs.Picture.{merge}
+use Rattle.merge_rules.specs.Picture.{merge, mergeTests}
 use Rattle.merge_rules.specs.Call.{colourOf, curveOf, matrixOf, residualOf, known, matrixCount, weightsOf, settingOf, settingNumber, mergeCall}
 use Rattle.reader_c.proofs.xt_box_bytes as box-call
 use Rattle.reader_c.proofs.xt_box_bytes.Kinds as box-kinds
@@ -202,5 +202,5 @@ module _ (κs : Lfts 6) (a : ArgsD merge-call.signature κs) (r : ResD merge-cal
       → (now (a .1 .1 .1 .1 .1 .1 .1 .1 .1 .1 .1 .1 .0) ≡ 0 ∷ 0 ∷ 0 ∷ replicate 253 512)
       → (now (a .1 .1 .1 .1 .1 .1 .1 .1 .1 .1 .1 .1 .1 .0) ≡ [])
       → Refuses 0 11 3 (now (a .1 .1 .1 .1 .1 .1 .1 .1 .1 .1 .1 .1 .1 .1 .0)) (now (s .1 .1 .1 .1 .1 .1 .1 .1 .1 .1 .1 .1 .1 .1 .0)) r (now (s .1 .1 .1 .1 .1 .1 .1 .1 .1 .1 .1 .1 .1 .1 .1 .0))
-  unfolding mergeCall settingNumber known matrixCount settingOf colourOf curveOf matrixOf residualOf weightsOf merge every firstFail orHere inRanges plain srgbAllowed residualCount lengthsRight entryRight entries
+  unfolding mergeCall settingNumber known matrixCount settingOf colourOf curveOf matrixOf residualOf weightsOf merge mergeTests every firstFail orHere inRanges plain srgbAllowed residualCount lengthsRight entryRight entries
   merge-refuses e0 e1 e2 e3 e4 e5 e6 e7 e8 e9 e10 e11 e12 e13 = refuses merge-meets (rw (e0, e1, e2, e3, e4, e5, e6, e7, e8, e9, e10, e11, e12, e13))
