@@ -4,7 +4,7 @@ use mathlib.Core.Bool.{true, false}
 use mathlib.Core.List.{List, [], _∷_, map}
 use Prim.Native.Nat.{ℕ}
 use Rattle.laws.specs.declared.Found.the-variants.{At, Nothing}
-use Rattle.answers.specs.Verdict.{Verdict, given, refused, refusal, need, unless, fitting, answerOf, outcomeOf, leaves}
+use Rattle.answers.specs.Verdict.{Verdict, given, refused, refusal, need, unless, fitting, answerOf, outcomeOf, leaves, MeetsBy, Meets}
 use Rattle.answers.specs.declared.Answer.{Answer}
 
 abbrev answer : ℕ → ℕ → Answer
@@ -27,3 +27,20 @@ ordered = refl
 -- "destination too short: length needed", both sides
 pub room : (fitting {A = ℕ} 2 (1 ∷ 2 ∷ 3 ∷ []) ≡ refused (refusal 9 3)) × (fitting {A = ℕ} 3 (1 ∷ 2 ∷ 3 ∷ []) ≡ given (1 ∷ 2 ∷ 3 ∷ []))
 room = (refl, refl)
+
+-- a call that meets its promise: with one destination; with two, where the list's elements are pairs and a refusal clears both
+pub met : Meets {A = ℕ} 0 (given (7 ∷ [])) (1 ∷ 2 ∷ []) (7 ∷ 2 ∷ []) (answer 0 1)
+met = record { answered = refl; held = refl }
+
+abbrev only : {A B : Type 0} → (A → B) → Verdict A → Verdict B
+only f (given ys) = given (map f ys)
+only f (refused r) = refused r
+
+abbrev apart : Verdict (ℕ × ℕ) → List ℕ × List ℕ → List ℕ × List ℕ
+apart v d = (leaves {A = ℕ} 0 (only (λ p. p .0) v) (d .0), leaves {A = ℕ} 0 (only (λ p. p .1) v) (d .1))
+
+pub met-twice : MeetsBy (λ v. outcomeOf v) apart (given ((7, 8) ∷ [])) (1 ∷ 2 ∷ [], 3 ∷ []) (7 ∷ 2 ∷ [], 8 ∷ []) (answer 0 1)
+met-twice = record { answered = refl; held = refl }
+
+pub cleared-twice : MeetsBy (λ v. outcomeOf v) apart (refused (refusal 20 0)) (1 ∷ 2 ∷ [], 3 ∷ []) (0 ∷ 0 ∷ [], 0 ∷ []) (answer 20 0)
+cleared-twice = record { answered = refl; held = refl }
