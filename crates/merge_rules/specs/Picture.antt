@@ -16,25 +16,27 @@ use Rattle.merge_rules.specs.Settings.{inRanges, plain, srgbAllowed, len
 
 -- ---- the picture
 
--- pixel p of a lent picture: "component planes follow one another"
+-- M4: pixel p of a lent picture: "component planes follow one another"
 unfoldable pub pixelAt : ℕ → ℕ → List ℤ → ℕ → Pixel ℤ
 pixelAt components pixels xs p =
     cond (eqb components 1) (single (getD xs p (pos 0)))
     (triple (getD xs p (pos 0)) (getD xs (pixels + p) (pos 0)) (getD xs (pixels + pixels + p) (pos 0)))
 
--- pixel p of the result
+-- M4: pixel p of the result
 unfoldable pub mergedAt : Setting → ℕ → List ℤ → List ℤ → List ℕ → ℕ → Pixel ℕ
 mergedAt s pixels base residual table p = merged s table (pixelAt (s .components) pixels base p) (pixelAt (s .components) pixels residual p)
 
--- the layout of the result: "the result is one 16-bit slice. In each, component planes follow one another"
+-- M4: the layout of the result: "the result is one 16-bit slice. In each, component planes follow one another"
 unfoldable pub planes : ℕ → ℕ → (ℕ → Pixel ℕ) → List ℕ
 planes components pixels pixel = joinTo components (λ k. tab pixels (λ p. component k (pixel p)))
 
+-- M4, M6: every pixel of the result, laid out so
 unfoldable pub mergedPicture : Setting → ℕ → List ℤ → List ℤ → List ℕ → List ℕ
 mergedPicture s pixels base residual table = planes (s .components) pixels (mergedAt s pixels base residual table)
 
 -- ---- the call: "Merge: 20, 21, 11, 9"
 
+-- N10, M6: the order of refusals is that of these lines
 unfoldable pub merge : Setting → ℕ → List ℤ → List ℤ → List ℕ → ℕ → Verdict ℕ
 merge s pixels base residual table room =
     need (inRanges s pixels) 20 0

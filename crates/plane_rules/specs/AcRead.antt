@@ -18,20 +18,21 @@ use Rattle.bit_rules.specs.Read.{takeCode}
 use Rattle.plane_rules.specs.Plane.{readable, Plane, read, onto, inBlock, closed}
 use Rattle.plane_rules.specs.Task.{Task, walk, ended, atZero, pass, over}
 
--- the number v with n more bits behind it, the highest first
+-- B1, R11: the number v with n more bits behind it, the highest first
 unfoldable pub takeNumber : ℕ → ℕ → Reader ℕ
 takeNumber zero v = done v
 takeNumber (suc n) v = do
   b ← takeBit
   takeNumber n (2 * v + bin b)
 
--- "r more bits, value e; a run of 2^r + e blocks ends here, this one included"; 17 "as soon as e is read". `left`: blocks from this one on
+-- R11, R12: "r more bits, value e; a run of 2^r + e blocks ends here, this one included"; 17 "as soon as e is read". `left`: blocks from this one on
 unfoldable pub endRun : ℕ → ℕ → Reader Task
 endRun left r = do
   e ← takeNumber r 0
   cond (leb (2 ^ r + e) left) (done (ended (2 ^ r + e - 1))) (fail 17)
 
--- "r (high four bits) and s (low four); s above 1 gives 15"; "one sign bit (1 is positive). Then walk on"; "through the 16th zero, which stays zero"
+-- R5, R8, R9, R10: "r (high four bits) and s (low four); s above 1 gives 15"; "one sign bit (1 is positive). Then walk on"; "through the 16th zero, which stays
+-- zero"
 unfoldable pub meaning : ℕ → ℕ → ℕ → Reader Task
 meaning left r zero = cond (ltb r 15) (endRun left r) (done (walk 15 none))
 meaning left r (suc zero) = do
@@ -39,19 +40,19 @@ meaning left r (suc zero) = do
   done (walk r (some b))
 meaning left r (suc (suc s)) = fail 15
 
--- the task at a position: where none is open, the next code makes one
+-- R5, R7: the task at a position: where none is open, the next code makes one
 unfoldable pub taskAt : Table → ℕ → Option Task → Reader Task
 taskAt T left (some t) = done t
 taskAt T left none = do
   v ← takeCode T
   meaning left (v / 16) (v % 16)
 
--- "A corrected value c becomes 2c, moved one away from zero if the bit is 1."
+-- R6: "A corrected value c becomes 2c, moved one away from zero if the bit is 1."
 abbrev pub corrected : ℤ → Bool → ℤ
 corrected (pos n) b = pos (2 * n + bin b)
 corrected (negsuc n) b = negsuc (2 * n + 1 + bin b)
 
--- "each value already nonzero takes one correction bit, each zero counts": the new value, and what is left of the task
+-- R6: "each value already nonzero takes one correction bit, each zero counts": the new value, and what is left of the task
 unfoldable pub position : Task → ℤ → Reader (ℤ × Option Task)
 position t (pos zero) = done (atZero t, pass t)
 position t (pos (suc n)) = do
@@ -61,13 +62,13 @@ position t (negsuc n) = do
   b ← takeBit
   done (corrected (negsuc n) b, some t)
 
--- behind position 63 an open walk has "no place left in the block": 16; an end run goes on
+-- R11, R13, R14: behind position 63 an open walk has "no place left in the block": 16; an end run goes on
 unfoldable pub blockEnd : Option Task → Reader (List ℤ × Option Task)
 blockEnd none = done ([], none)
 blockEnd (some (ended n)) = done ([], over (some (ended n)))
 blockEnd (some (walk n sign)) = fail 16
 
--- the positions of a block from here on: their new values, and the task that the next block begins with
+-- R5, R14: the positions of a block from here on: their new values, and the task that the next block begins with
 unfoldable pub acBlock : Table → ℕ → Option Task → List ℤ → Reader (List ℤ × Option Task)
 acBlock T left o [] = blockEnd o
 acBlock T left o (c ∷ values) = do
@@ -76,17 +77,17 @@ acBlock T left o (c ∷ values) = do
   r ← acBlock T left (x .1) values
   done (x .0 ∷ r .0, r .1)
 
--- n blocks of 63 values
+-- L2: n blocks of 63 values
 unfoldable pub cut : ℕ → List ℤ → List (List ℤ)
 cut zero values = []
 cut (suc n) values = take 63 values ∷ cut n (drop 63 values)
 
--- the block with this number and those after it
+-- R3, R5, R16: the block with this number and those after it
 unfoldable pub acBlocks : Table → ℕ → Option Task → List (List ℤ) → Source → Plane
 acBlocks T block o [] s = read [] s
 acBlocks T block o (b ∷ bs) s = inBlock block (λ r t. onto (r .0) (acBlocks T (suc block) (r .1) bs t)) (acBlock T (suc (length bs)) o b s)
 
--- reading: 20, 21, 10, 11, 9, then 12 to 18 as the bits are met
+-- N7, K2, R2: reading: 20, 21, 10, 11, 9, then 12 to 18 as the bits are met
 unfoldable pub readAc : ℕ → ℕ → Table → List ℤ → List ℕ → ℕ → Verdict ℤ
 readAc plane blocks T values bytes room =
     need (every (readable plane blocks)) 20 0
