@@ -1,4 +1,4 @@
--- Bytes out of bits (01, "Its padding is ones, with 00 after FF").
+-- B7: bytes out of bits. "Its padding is ones, with 00 after FF."
 use mathlib.Core.Bool.{Bool, cond}
 use mathlib.Core.List.{List, [], _∷_}
 use Prim.Native.Nat.{ℕ, zero, suc, _+_, _*_}

@@ -1,4 +1,4 @@
--- Coded data as a source of bits (01, "Refinement planes"; T.81, F.2.2.5).
+-- B1 to B6: coded data as a source of bits (T.81, F.2.2.5).
 use mathlib.Core.Bool.{Bool, true, false, cond}
 use mathlib.Core.List.{List, [], _∷_}
 use Prim.Native.Nat.{ℕ, zero, suc, _+_, _/_, _^_}
@@ -20,7 +20,7 @@ source pending coming seen = record { pending = pending; coming = coming; seen =
 abbrev pub start : List ℕ → Source
 start bytes = source [] bytes 0
 
--- what a reader answers: a value and what is left, or a number of 01's table
+-- what a reader answers: a value and what is left, or a number of N4's table
 pub data Out (A : Type 0) : Type 0 where
   got : A → Source → Out A
   stopped : Stop → Out A

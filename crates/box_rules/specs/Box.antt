@@ -1,4 +1,4 @@
--- 01, "Packets and boxes": the answer for one type and instance.
+-- N5 and P5 to P12: the answer for one type and instance.
 use Prim.Native.Nat.{ℕ, zero, suc, _+_, _-_}
 use mathlib.Core.List.{List, [], _∷_, _++_}
 use mathlib.Core.Bool.{Bool, true, false, cond}

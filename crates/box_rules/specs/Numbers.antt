@@ -1,4 +1,4 @@
--- 01, refusals 6 and 7: the number that stands twice, and the one that is missing.
+-- P7 and P8: the number that stands twice (6), and the one that is missing (7).
 use Prim.Native.Nat.{ℕ, zero, suc, min}
 use mathlib.Core.List.{List, [], _∷_}
 use mathlib.Core.Bool.{Bool, false, cond}

@@ -1,4 +1,4 @@
--- 01's own sentence: "Bytes are handed out exactly if an ordering of all of them exists whose sequence numbers read 1, 2, .. n,
+-- P11: "Bytes are handed out exactly if an ordering of all of them exists whose sequence numbers read 1, 2, .. n,
 -- all with one LBox, and whose payloads joined have LBox-8 bytes; then these are the bytes (given room)."
 use Prim.Native.Nat.{ℕ, zero, suc, _≤_, _<_}
 use mathlib.Core.Path.{_≡_}
@@ -36,7 +36,7 @@ pub record Makes (ps order : List Packet) (h : Head) : Type 0 where
   pub one : agree h order ≡ true
   pub fills : length (payloads order) ≡ contents h
 
--- P11: the bytes b are handed out, by 01's sentence: the walk ends well, the type and instance has packets, an ordering of them makes a box, and there is room
+-- P11: the bytes b are handed out, by this sentence: the walk ends well, the type and instance has packets, an ordering of them makes a box, and there is room
 pub record HandedOut (file : List ℕ) (kind instance room : ℕ) (b : List ℕ) : Type 0 where
   pub well : ending (walk file) ≡ Given 0
   pub some : 0 < length (mine kind instance (packets file))

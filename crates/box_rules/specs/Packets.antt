@@ -1,4 +1,4 @@
--- 01, "Packets and boxes": the packets that a walk meets, and those of one type and instance.
+-- P4: the packets that a walk meets, and those of one type and instance.
 use Prim.Native.Nat.{ℕ, _-_}
 use mathlib.Core.List.{List, [], _∷_}
 use mathlib.Core.Bool.{Bool, false, cond}

@@ -1,4 +1,4 @@
--- 01, "The listing program": the text of the listing.
+-- P13 to P19: the text of the listing.
 use Prim.Native.Nat.{ℕ, zero, suc, _+_, _/_, _%_}
 use mathlib.Core.List.{List, [], _∷_, _++_}
 use mathlib.Core.Bool.{cond}

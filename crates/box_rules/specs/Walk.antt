@@ -1,4 +1,4 @@
--- 01, "Packets and boxes": what stands at a position of a file, and the walk as the list of its steps.
+-- W1 to W9: what stands at a position of a file, and the walk as the list of its steps.
 use Prim.Native.Nat.{ℕ, zero, suc, _+_, _*_, _-_}
 use mathlib.Core.List.{List, [], _∷_}
 use mathlib.Core.Bool.{Bool, true, false, cond}

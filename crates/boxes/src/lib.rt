@@ -1,4 +1,4 @@
-// One box assembled from its packets (01, "Packets and boxes").
+// One box assembled from its packets (docs/RULES.md, P4 to P12).
 use answers::Answer;
 use answers::Outcome;
 use answers::Refusal;

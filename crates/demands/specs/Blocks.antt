@@ -1,4 +1,4 @@
--- Blocks one after another: where reading them stops, and what is left behind the last (for the numbers 12 to 18 of demand 1).
+-- R3 and R15: blocks one after another, where reading them stops, and what is left behind the last (for the numbers 12 to 18 of D1).
 use mathlib.Core.Path.{_≡_}
 use mathlib.Core.Bool.{Bool, false}
 use mathlib.Core.List.{List, [], _∷_}

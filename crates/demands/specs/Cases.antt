@@ -1,4 +1,4 @@
--- The whiteboard's readings that 01 marks P (a, c, d, e, f, g), as one list.
+-- S1 to S9: the whiteboard's readings marked P (cases a, c, d, e, f, g), as one list.
 use mathlib.Core.Path.{_≡_}
 use mathlib.Core.List.{List, [], _∷_, map}
 use Prim.Native.Nat.{ℕ}
@@ -119,7 +119,8 @@ whiteboard =
     -- a. "LPTS, 1 gives AA BB CC", "LPTS, 2 gives 4"
     (box file lpts 1 3 gives naturals (given (0xAA ∷ 0xBB ∷ 0xCC ∷ [])))
     ∷ (box file lpts 2 3 gives naturals (refused (refusal 4 0)))
-    -- c. "T, one zero block, data 67: AC 1 becomes 1", "Position 1 at 3, data 3F: 7", "Same, data 43: 6, then -1 at position 2", "Zero block, data 43: 18, place 1"
+    -- c. "T, one zero block, data 67: AC 1 becomes 1", "Position 1 at 3, data 3F: 7", "Same, data 43: 6, then -1 at position 2",
+    -- "Zero block, data 43: 18, place 1"
     ∷ (acRead 1 1 tableT (block (pos 0)) (0x67 ∷ []) 63 gives integers (given (block (pos 1))))
     ∷ (acRead 1 1 tableT (block (pos 3)) (0x3F ∷ []) 63 gives integers (given (block (pos 7))))
     ∷ (acRead 1 1 tableT (block (pos 3)) (0x43 ∷ []) 63 gives integers (given (pos 6 ∷ negsuc 0 ∷ replicate 61 (pos 0))))

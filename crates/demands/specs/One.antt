@@ -1,5 +1,4 @@
--- Demand 1: "Each call ends on every input and checks its own input. A refusal gives its number and place from document 01, and the lent
--- destination then holds only zeros."
+-- D1: each call ends on every input and checks its own input; a refusal gives its number and place, and the lent destination then holds only zeros.
 use mathlib.Core.Path.{_≡_}
 use mathlib.Core.Logic.{_⊎_}
 use mathlib.Core.Bool.{Bool, true, false, cond}
@@ -37,7 +36,7 @@ use Rattle.merge_rules.specs.Picture.{merge}
 use Rattle.merge_rules.specs.Call.{matrixCount, mergeCall}
 use Rattle.demands.specs.Blocks.{StopsAt, LeftOver, oneDc, oneAc}
 
--- ---- 01's table: which number with which place, and when
+-- ---- the table of N4: which number with which place, and when
 
 -- N4: which number is told with which place
 abbrev pub Rows : Type 1

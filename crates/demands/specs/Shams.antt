@@ -1,4 +1,4 @@
--- What the demands rule out (01, "Promises and the shams they stop"): each statement here follows from a demand, and would not if the demand were weaker.
+-- D4 and D5: what the demands rule out. Each statement here follows from a demand, and would not if the demand were weaker.
 use mathlib.Core.Path.{_≡_}
 use mathlib.Core.List.{List, [], _∷_}
 use mathlib.Core.Option.{some}
@@ -61,7 +61,7 @@ AlwaysRefusing = (after : List ℤ) (answer : Answer) → Exactly caseD after an
 abbrev pub caseE : ℕ → List ℤ → Type 0
 caseE s = Sampled 0 1 (pos s ∷ replicate 63 (pos 0)) (replicate 64 1) 64
 
--- D5: no picture is right for two values of S
+-- D5: one picture is not right for S 16 and for S 4
 abbrev pub OnePicture : Type 0
 OnePicture = (after : List ℤ) (answer : Answer) → Exactly (caseE 16) after answer → Exactly (caseE 4) after answer → ⊥
 

@@ -1,6 +1,6 @@
--- Demand 3: "Take any blocks within 01's ranges and any k from 0 to 4. Write them as a base and k planes with our writer, given room and code
--- tables that hold every code needed. Each plane is accepted. After the first j planes each value is the full one divided by 2^(k-j), downward for
--- DC and toward zero for AC; after all k it is the full value."
+-- D3: take any blocks within the ranges and any k from 0 to 4. Write them as a base and k planes with our writer, given room and code tables that
+-- hold every code needed. Each plane is accepted. After the first j planes each value is the full one divided by 2^(k-j), downward for DC and toward
+-- zero for AC; after all k it is the full value.
 use mathlib.Core.Path.{_≡_}
 use mathlib.Core.Bool.{true}
 use mathlib.Core.List.{List}
@@ -71,11 +71,11 @@ readPlane j n lent bytes values =
 pub record Refined (k n : ℕ) (full : Both ℤ) (lent : ℕ → Provided) : Type 0 where
   -- the bytes of each plane
   pub plane : ℕ → Both ℕ
-  -- "Each plane is accepted": plane j of the values of level j
+  -- each plane is accepted: plane j of the values of level j
   pub written : (j : ℕ) → 1 ≤ j → j ≤ k → writePlane j n (lent j) (levelOf k full j) ≡ some (plane j)
-  -- "After the first j planes each value is the full one divided by 2^(k-j)"
+  -- after the first j planes each value is the full one divided by 2^(k-j)
   pub after : (j : ℕ) → j ≤ k → climb (λ i values. readPlane i n (lent i) (plane i) values) j (levelOf k full 0) ≡ some (levelOf k full j)
-  -- "after all k it is the full value"
+  -- after all k it is the full value
   pub whole : levelOf k full k ≡ full
   -- and each level, the base too, lies in its ranges
   pub within : (j : ℕ) → j ≤ k → Within j n (levelOf k full j)

@@ -1,5 +1,5 @@
--- Demand 2: box bytes, refined coefficients, samples and merged results are those of 01. A call hands out values exactly where 01 does, and
--- then it has written 01's values.
+-- D2: box bytes, listings, refined coefficients, written planes, samples and merged results are those of the rules. A call hands out values exactly
+-- where the rules have some, and then it has written these.
 use mathlib.Core.Path.{_≡_}
 use mathlib.Core.Bool.{Bool, true, false}
 use mathlib.Core.List.{List, [], _∷_, _++_}
@@ -44,7 +44,7 @@ pub record Exactly {A : Type 0} (Right : List A → Type 0) (after : List A) (an
   pub sound : answer .number ≡ 0 → Right (take (answer .place) after)
   pub complete : (ys : List A) → Right ys → (answer .number ≡ 0) × (take (answer .place) after ≡ ys)
 
--- ---- boxes: `HandedOut` is 01's sentence, "exactly if an ordering of all of them exists .."
+-- ---- boxes: `HandedOut` is P11, "exactly if an ordering of all of them exists .."
 
 -- ---- planes
 
@@ -169,8 +169,8 @@ DcValuesAre =
     (plane blocks : ℕ) (values : List ℤ) (bytes : List ℕ) (room : ℕ) (ys : List ℤ) → DcRefined plane blocks values bytes room ys
     → (b : ℕ) → b < blocks → getD ys b (pos 0) ≡ pos 2 *ℤ getD values b (pos 0) +ℤ pos (bin (getD (allBits (carrying false bytes)) b false))
 
--- R6: "A corrected value c becomes 2c, moved one away from zero if the bit is 1", and a zero stays or becomes +1 or -1: that is, half of the new value, toward
--- zero, is the old one
+-- R6: "A corrected value c becomes 2c, moved one away from zero if the bit is 1", and a zero stays or becomes +1 or -1:
+-- that is, half of the new value, toward zero, is the old one
 abbrev pub AcValuesAre : Type 0
 AcValuesAre =
     (plane blocks : ℕ) (codes : Table) (values : List ℤ) (bytes : List ℕ) (room : ℕ) (ys : List ℤ) → AcRefined plane blocks codes values bytes room ys

@@ -1,4 +1,4 @@
-// A block's samples from its 64 products (01, "Inverse transform"): the kernel, the double sum, the rounding.
+// A block's samples from its 64 products (docs/RULES.md, T7 to T9): the kernel, the double sum, the rounding.
 ghost use mathlib.Core.Path.{_≡_};
 ghost use mathlib.Core.List.{_++_};
 ghost use Prim.Native.Nat.{_+_, _^_, _<_, _≤_};

@@ -1,4 +1,4 @@
--- The range of a value at a level (01, "Ranges").
+-- L1 to L5: the range of a value at a level.
 use mathlib.Core.Bool.{Bool, true, false, _&&_}
 use mathlib.Core.List.{List}
 use Prim.Native.Nat.{ℕ, _+_, _^_, _%_}

@@ -1,4 +1,4 @@
-// The merge to 9 to 16 bits (01, "Merge"): a picture of one or three components, and the public call.
+// The merge to 9 to 16 bits (docs/RULES.md, M1 to M18): a picture of one or three components, and the public call.
 ghost use mathlib.Core.Path.{_≡_};
 ghost use mathlib.Core.List.{_++_};
 ghost use Prim.Native.Nat.{_*_, _<_, _≤_};

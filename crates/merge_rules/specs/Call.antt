@@ -1,4 +1,4 @@
--- The merge's setting as numbers: "numbers that name a setting are turned to enums, an unknown one is 20"; the matrix as a lent list.
+-- C5, C6, C7: the merge's setting as numbers, an unknown one being 20; the matrix as a lent list.
 use mathlib.Core.Bool.{Bool, cond}
 use mathlib.Core.List.{List, [], _∷_}
 use Prim.Native.Nat.{ℕ}

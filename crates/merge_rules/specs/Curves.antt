@@ -1,4 +1,4 @@
--- The base curve of the merge (01, "Merge", step 2).
+-- M12 and M13: the base curve of the merge, step 2.
 use mathlib.Core.List.{List}
 use Prim.Native.Nat.{ℕ, _+_, _*_, _^_}
 use lib.IntN.{ℤ, pos}

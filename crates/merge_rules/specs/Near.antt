@@ -1,4 +1,4 @@
--- How the merge rounds, clips and weighs numbers (01, "Merge").
+-- How the merge rounds (M8), clips (M11) and weighs numbers (M9, M15).
 use Prim.Native.Nat.{ℕ, _+_, _-_, _*_, _^_, min}
 use lib.IntN.{ℤ, pos, negsuc, _+ℤ_, _*ℤ_}
 use lib.Signed.{shrZ}
@@ -7,7 +7,7 @@ use lib.Signed.{shrZ}
 unfoldable pub nearest : ℤ → ℕ → ℤ
 nearest t m = shrZ (pos 2 *ℤ t +ℤ pos m) (2 * m)
 
--- M11: "clip to 0 .. top"
+-- M11: clip to 0 .. top
 unfoldable pub clip : ℤ → ℕ → ℕ
 clip (pos n) top = min n top
 clip (negsuc n) top = 0

@@ -1,4 +1,4 @@
--- The merge of a picture (01, "Merge"): the picture by index, and what the call comes to.
+-- M4 to M7: the merge of a picture by index, and what the call comes to.
 use mathlib.Core.Bool.{cond}
 use mathlib.Core.List.{List}
 use Prim.Native.Nat.{ℕ, _+_}

@@ -1,4 +1,4 @@
--- What a merge may be set to and must be lent (01, "Merge"): the tests behind its refusals 20, 21 and 11.
+-- M1 to M3, M5 and M7: what a merge may be set to and must be lent, the tests behind its refusals 20, 21 and 11.
 use mathlib.Core.Bool.{Bool, true, false, cond, not}
 use mathlib.Core.List.{List, [], _∷_}
 use Prim.Native.Nat.{ℕ, _*_}
@@ -27,7 +27,7 @@ oneOrThree c = cond (eqb c 1) true (eqb c 3)
 unfoldable pub inRanges : Setting → ℕ → Bool
 inRanges s pixels = every (leb 1 (s .rb) ∷ leb (s .rb) 8 ∷ leb (s .rh) 4 ∷ leb (s .rr) 4 ∷ oneOrThree (s .components) ∷ leb pixels 65536 ∷ [])
 
--- M2: it is no identity
+-- M2: a transform, and not the identity
 abbrev pub isTransform : Colour → Bool
 isTransform Identity = false
 isTransform Transform = true

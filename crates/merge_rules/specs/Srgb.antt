@@ -1,4 +1,4 @@
--- The inverse sRGB table and the rule that its entries follow (01, "The sRGB table has 256 entries t").
+-- M14: the inverse sRGB table and the rule that its entries follow. "The sRGB table has 256 entries t."
 use mathlib.Core.Bool.{Bool, cond, _&&_}
 use mathlib.Core.List.{List, [], _∷_}
 use Prim.Native.Nat.{ℕ, _+_, _-_, _*_, _^_}

@@ -1,4 +1,4 @@
--- The five steps of the merge for one pixel (01, "Merge"). A transform or a matrix over a single number is refused before any step (20).
+-- M9 to M18: the five steps of the merge for one pixel. A transform or a matrix over a single number is refused before any step (20, M2).
 use mathlib.Core.List.{List}
 use Prim.Native.Nat.{ℕ, _+_, _^_}
 use lib.IntN.{ℤ, pos, negℤ, _+ℤ_, _-ℤ_, _*ℤ_}
@@ -48,7 +48,7 @@ stepOne s p = each (λ v. clip v (top (s .rh))) (recolour (s .«base_transform»
 
 -- ---- 2. base curve
 
--- M12, M13: each number by the curve
+-- M12, M13: each number by the curve of the setting
 unfoldable pub stepTwo : Setting → List ℕ → Pixel ℕ → Pixel ℤ
 stepTwo s table p = each (curved (s .curve) (s .rb) (s .rh) table) p
 
@@ -64,7 +64,7 @@ matrixed None ws p = p
 matrixed On ws (single a) = single a
 matrixed On ws (triple a b c) = triple (weighted ws 0 a b c) (weighted ws 3 a b c) (weighted ws 6 a b c)
 
--- M15: by the matrix, if there is one
+-- M15: by the setting
 unfoldable pub stepThree : Setting → Pixel ℤ → Pixel ℤ
 stepThree s p = matrixed (s .matrix) (s .weights) p
 
@@ -93,7 +93,7 @@ unfoldable pub withResidual : Residual → ℕ → Pixel ℤ → Pixel ℤ → P
 withResidual Absent rb base residual = each (alone rb) base
 withResidual Present rb base residual = both (added rb) base residual
 
--- M17: by the residual, if there is one
+-- M17: by the setting
 unfoldable pub stepFive : Setting → Pixel ℤ → Pixel ℤ → Pixel ℕ
 stepFive s base residual = withResidual (s .residual) (s .rb) base residual
 

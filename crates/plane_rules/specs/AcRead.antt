@@ -31,8 +31,8 @@ endRun left r = do
   e ← takeNumber r 0
   cond (leb (2 ^ r + e) left) (done (ended (2 ^ r + e - 1))) (fail 17)
 
--- R5, R8, R9, R10: "r (high four bits) and s (low four); s above 1 gives 15"; "one sign bit (1 is positive). Then walk on"; "through the 16th zero, which stays
--- zero"
+-- R5, R8, R9, R10: "r (high four bits) and s (low four); s above 1 gives 15"; "one sign bit (1 is positive). Then walk on";
+-- "through the 16th zero, which stays zero"
 unfoldable pub meaning : ℕ → ℕ → ℕ → Reader Task
 meaning left r zero = cond (ltb r 15) (endRun left r) (done (walk 15 none))
 meaning left r (suc zero) = do

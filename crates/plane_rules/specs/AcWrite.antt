@@ -95,7 +95,7 @@ abbrev pub choose : Option Task → List Kind → List (List Kind) → Task
 choose none kinds later = plan kinds later
 choose (some t) kinds later = t
 
--- E5: the code of a new one
+-- E5: what tells it, if it is a new one
 abbrev pub tell : Option Task → Task → List Token
 tell none t = emit t
 tell (some u) t = []

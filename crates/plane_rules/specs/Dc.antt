@@ -1,4 +1,4 @@
--- DC planes, read and written (01: "A DC plane is one bit per block: new DC = 2c + bit. Its calls need no table.").
+-- R2 to R4, E2 and E3: DC planes, read and written. "A DC plane is one bit per block: new DC = 2c + bit. Its calls need no table."
 use mathlib.Core.Bool.{Bool, not}
 use mathlib.Core.List.{List, [], _∷_, map}
 use Prim.Native.Nat.{ℕ, suc, _-_, _/_}

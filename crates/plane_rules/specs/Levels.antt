@@ -1,4 +1,4 @@
--- The values of a lower level, and planes read one after another (demand 3).
+-- The values of a lower level, and planes read one after another, for D3.
 use mathlib.Core.List.{List, map}
 use mathlib.Core.Option.{Option, none, some}
 use Prim.Native.Nat.{ℕ, zero, suc, _-_, _/_, _^_}

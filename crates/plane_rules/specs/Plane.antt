@@ -1,4 +1,4 @@
--- What DC and AC planes share (01, "Refinement planes"): the counts they take, blocks one after another, what must follow the last.
+-- What DC and AC planes share: the counts they take (R1, E1), blocks one after another (R3), what must follow the last (R15).
 use mathlib.Core.Bool.{Bool}
 use mathlib.Core.List.{List, [], _∷_, _++_}
 use Prim.Native.Nat.{ℕ}

@@ -1,4 +1,4 @@
-// Dequantising and the inverse transform of a picture's blocks (01, "Inverse transform").
+// Dequantising and the inverse transform of a picture's blocks (docs/RULES.md, T1 to T9).
 ghost use mathlib.Core.Path.{_≡_};
 ghost use mathlib.Core.List.{_++_};
 ghost use Prim.Native.Nat.{_+_, _*_, _<_, _≤_};

@@ -1,4 +1,4 @@
--- The call's verdict (01: "Transform: 20, 21, 22, 11, 9").
+-- T1 to T4: the verdict of the call, "Transform: 20, 21, 22, 11, 9".
 use mathlib.Core.Bool.{Bool}
 use mathlib.Core.List.{List, [], _∷_}
 use Prim.Native.Nat.{ℕ, _*_}

@@ -1,4 +1,4 @@
--- The kernel K(x,u) from nine cosines (01, "Inverse transform").
+-- T7: the kernel K(x,u) from nine cosines.
 use mathlib.Core.Bool.{cond}
 use mathlib.Core.List.{List, [], _∷_}
 use Prim.Native.Nat.{ℕ, zero, suc, _+_, _-_, _*_, _/_, _%_}

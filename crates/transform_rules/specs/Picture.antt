@@ -1,4 +1,4 @@
--- Dequantising, and the samples of a picture's blocks (01, "Inverse transform").
+-- T6, T8 and T9: dequantising, and the samples of a picture's blocks.
 use mathlib.Core.Path.{_≡_}
 use mathlib.Core.List.{List}
 use Prim.Native.Nat.{ℕ, _+_, _*_, _^_, _≤_}

@@ -1,4 +1,4 @@
--- A block's samples from its 64 products S (01, "Inverse transform").
+-- T8 and T9: a block's samples from its 64 products S.
 use mathlib.Core.Path.{_≡_}
 use mathlib.Core.List.{List}
 use Prim.Native.Nat.{ℕ, _+_, _*_, _/_, _%_, _^_, _≤_}

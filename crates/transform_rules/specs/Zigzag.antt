@@ -1,4 +1,4 @@
--- The zigzag order (01: "in zigzag order"; T.81, Figure 5), by its rule: along the anti-diagonals, to and fro.
+-- T5: the zigzag order (T.81, Figure 5), by its rule: along the anti-diagonals, to and fro.
 use mathlib.Core.Bool.{cond}
 use mathlib.Core.List.{List}
 use Prim.Native.Nat.{ℕ, zero, suc, _+_, _-_, _/_, _%_, min}
