@@ -22,15 +22,15 @@ be32 file i = be16 file i * 65536 + be16 file (i + 2)
 -- W4: how many bytes FF a list begins with
 unfoldable pub ones : List ℕ → ℕ
 ones [] = 0
-ones (x ∷ r) = cond (eqb x 255) (suc (ones r)) 0
+ones (x ∷ r) = cond (eqb x 0xFF) (suc (ones r)) 0
 
 -- W6: "Markers 00, 01, D0 to D9"
 unfoldable pub barred : ℕ → Bool
-barred b = cond (ltb b 2) true (cond (ltb b 208) false (leb b 217))
+barred b = cond (ltb b 0x02) true (cond (ltb b 0xD0) false (leb b 0xD9))
 
 -- W7: "whose contents begin 4A 50": the marker at m, the length len, the contents within the segment
 unfoldable pub tagged : List ℕ → ℕ → ℕ → Bool
-tagged file m len = cond (ltb len 4) false (cond (eqb (getD file (m + 3) 0) 74) (eqb (getD file (m + 4) 0) 80) false)
+tagged file m len = cond (ltb len 4) false (cond (eqb (getD file (m + 3) 0) 0x4A) (eqb (getD file (m + 4) 0) 0x50) false)
 
 -- P1, P2, P3: "length (2), 4A 50, instance (2), sequence number (4), LBox (4), type (4), payload": what the head behind the marker at m states;
 -- of the stated length, LBox, 8 bytes are the head of the box
@@ -47,7 +47,7 @@ packetAt file at m len =
 -- W7, W9: "A segment EB whose contents begin 4A 50 is a packet"; "Any other EB segment is skipped", and any other segment
 unfoldable pub wholeAt : List ℕ → ℕ → ℕ → ℕ → Step
 wholeAt file at m len =
-    cond (eqb (getD file m 0) 235) (cond (tagged file m len) (packetAt file at m len) (Skip (m + 1 + len))) (Skip (m + 1 + len))
+    cond (eqb (getD file m 0) 0xEB) (cond (tagged file m len) (packetAt file at m len) (Skip (m + 1 + len))) (Skip (m + 1 + len))
 
 -- W4, W6, W9: "a two-byte length that counts itself": "a length below 2, or a segment past the end give 2"
 unfoldable pub sizedAt : List ℕ → ℕ → ℕ → Step
@@ -62,7 +62,7 @@ unfoldable pub markedAt : List ℕ → ℕ → ℕ → Step
 markedAt file at m =
     cond (leb m at) (Broken (refusal 2 at))
     (cond (leb (length file) m) (Broken (refusal 2 at))
-    (cond (eqb (getD file m 0) 218) End
+    (cond (eqb (getD file m 0) 0xDA) End
     (cond (barred (getD file m 0)) (Broken (refusal 2 at))
     (sizedAt file at m))))
 
@@ -90,7 +90,7 @@ stepsFrom file at = stepsIn (length file - at) file at
 
 -- W1: a file begins FF D8
 unfoldable pub begins : List ℕ → Bool
-begins file = cond (ltb (length file) 2) false (cond (eqb (getD file 0 0) 255) (eqb (getD file 1 0) 216) false)
+begins file = cond (ltb (length file) 2) false (cond (eqb (getD file 0 0) 0xFF) (eqb (getD file 1 0) 0xD8) false)
 
 -- W1: 1, "does not begin FF D8"; else the steps from a position on
 abbrev pub walkFrom : List ℕ → ℕ → List Step
