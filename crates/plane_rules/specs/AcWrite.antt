@@ -1,4 +1,10 @@
--- Writing an AC plane (01, "The writer takes level j values"): the reader's tasks, chosen by looking ahead.
+-- E2 and E4 to E10: writing an AC plane, with the reader's tasks, chosen by looking ahead. In this order: a value against its half (`kindOf`), what is
+-- ahead in the block and in later ones (`ahead`, `quiet`), the task to open (`plan`) and its tokens (`emit`), the tokens of a block and of a plane
+-- (`writeBlock`, `tokens`), the table (`lacking`, `spelled`), and the call (`writeAc`).
+-- Case c of the whiteboard (S3), written: 6, -1 and zeros, whose halves are 3, 0 and zeros: `keep false`, `fresh false`, then `still`. Position 1,
+-- nothing open: the new value ahead has 0 zeros before it (a correction does not count), so the task is `walk 0 (some false)`: code 01 and the sign
+-- bit 0; then the 6 puts its correction bit, 0. Position 2 puts nothing, and the task is done. Position 3, nothing open, no new value ahead: `ended 0`,
+-- 1 block being 2^0 + 0: code 00 and no bits, and the zeros behind it put nothing. By T these are 01 0 0 00, filled up with 11: 0100 0011, data 43.
 use mathlib.Core.Bool.{Bool, true, false, cond}
 use mathlib.Core.List.{List, [], _∷_, _++_, map}
 use mathlib.Core.Option.{Option, none, some}
