@@ -30,7 +30,8 @@ hex (suc k) n = hex k (n / 16) ++ (glyph (n % 16) ∷ [])
 
 -- P13: "instance number bytes type", and LF
 unfoldable pub header : List ℕ
-header = 105 ∷ 110 ∷ 115 ∷ 116 ∷ 97 ∷ 110 ∷ 99 ∷ 101 ∷ 32 ∷ 110 ∷ 117 ∷ 109 ∷ 98 ∷ 101 ∷ 114 ∷ 32 ∷ 98 ∷ 121 ∷ 116 ∷ 101 ∷ 115 ∷ 32 ∷ 116 ∷ 121 ∷ 112 ∷ 101 ∷ 10 ∷ []
+header =
+    105 ∷ 110 ∷ 115 ∷ 116 ∷ 97 ∷ 110 ∷ 99 ∷ 101 ∷ 32 ∷ 110 ∷ 117 ∷ 109 ∷ 98 ∷ 101 ∷ 114 ∷ 32 ∷ 98 ∷ 121 ∷ 116 ∷ 101 ∷ 115 ∷ 32 ∷ 116 ∷ 121 ∷ 112 ∷ 101 ∷ 10 ∷ []
 
 -- P14: "instance number bytes type", "`bytes` the packet's own payload"
 unfoldable pub line : ℕ → ℕ → ℕ → ℕ → List ℕ

@@ -15,7 +15,8 @@ use Rattle.plane_rules.specs.AcRead.{acBlock}
 -- R3: the first p blocks were read well, each from where the one before it left off: what is open then, the blocks that are left, and the data that are left
 pub data Behind {A B : Type 0} (one : A → B → List B → Source → Out A) (o₀ : A) (bs₀ : List B) (s₀ : Source) : ℕ → A → List B → Source → Type 0 where
   begun : Behind one o₀ bs₀ s₀ 0 o₀ bs₀ s₀
-  further : {p : ℕ} {o o′ : A} {b : B} {bs : List B} {s t : Source} → Behind one o₀ bs₀ s₀ p o (b ∷ bs) s → one o b bs s ≡ got o′ t → Behind one o₀ bs₀ s₀ (suc p) o′ bs t
+  further : {p : ℕ} {o o′ : A} {b : B} {bs : List B} {s t : Source}
+      → Behind one o₀ bs₀ s₀ p o (b ∷ bs) s → one o b bs s ≡ got o′ t → Behind one o₀ bs₀ s₀ (suc p) o′ bs t
 
 -- R3: "block": those before block p were read well, and block p stops with the number n
 pub record StopsAt {A B : Type 0} (one : A → B → List B → Source → Out A) (o₀ : A) (bs₀ : List B) (s₀ : Source) (n p : ℕ) : Type 0 where

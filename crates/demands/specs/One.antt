@@ -257,6 +257,7 @@ pub record DemandOne : Type 0 where
   pub merges : (s : Setting) (pixels : ℕ) (base residual : List ℤ) (table : List ℕ) (before after : List ℕ) (answer : Answer)
       → Meets 0 (merge s pixels base residual table (length before)) before after answer
       → Answered 0 (mergeRows s pixels base residual table (length before)) before after answer
-  pub mergeCalls : (named : Bool) (s : Setting) (pixels : ℕ) (base residual : List ℤ) (table : List ℕ) (matrix : List ℤ) (before after : List ℕ) (answer : Answer)
+  pub mergeCalls : (named : Bool) (s : Setting) (pixels : ℕ) (base residual : List ℤ) (table : List ℕ) (matrix : List ℤ)
+      (before after : List ℕ) (answer : Answer)
       → Meets 0 (mergeCall named s pixels base residual table matrix (length before)) before after answer
       → Answered 0 (mergeCallRows named s pixels base residual table matrix (length before)) before after answer

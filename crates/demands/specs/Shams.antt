@@ -39,13 +39,17 @@ pub record Only (numbers : List ℕ) (table : Rows) : Type 0 where
 pub record NumbersAre : Type 0 where
   pub boxes : (file : List ℕ) (kind instance room : ℕ) → Only (1 ∷ 2 ∷ 3 ∷ 4 ∷ 5 ∷ 6 ∷ 7 ∷ 8 ∷ 9 ∷ []) (boxRows file kind instance room)
   pub listings : (file : List ℕ) (room : ℕ) → Only (9 ∷ []) (listRows file room)
-  pub dcRead : (plane blocks : ℕ) (values : List ℤ) (bytes : List ℕ) (room : ℕ) → Only (20 ∷ 21 ∷ 11 ∷ 9 ∷ 12 ∷ 13 ∷ 18 ∷ []) (dcReadRows plane blocks values bytes room)
+  pub dcRead : (plane blocks : ℕ) (values : List ℤ) (bytes : List ℕ) (room : ℕ)
+      → Only (20 ∷ 21 ∷ 11 ∷ 9 ∷ 12 ∷ 13 ∷ 18 ∷ []) (dcReadRows plane blocks values bytes room)
   pub acRead : (plane blocks : ℕ) (codes : Table) (values : List ℤ) (bytes : List ℕ) (room : ℕ)
       → Only (20 ∷ 21 ∷ 10 ∷ 11 ∷ 9 ∷ 12 ∷ 13 ∷ 14 ∷ 15 ∷ 16 ∷ 17 ∷ 18 ∷ []) (acReadRows plane blocks codes values bytes room)
   pub dcWrite : (plane blocks : ℕ) (values : List ℤ) (room : ℕ) → Only (20 ∷ 21 ∷ 11 ∷ 9 ∷ []) (dcWriteRows plane blocks values room)
-  pub acWrite : (plane blocks : ℕ) (codes : Table) (values : List ℤ) (room : ℕ) → Only (20 ∷ 21 ∷ 10 ∷ 11 ∷ 19 ∷ 9 ∷ []) (acWriteRows plane blocks codes values room)
-  pub transforms : (refinement blocks : ℕ) (values : List ℤ) (quantisers : List ℕ) (room : ℕ) → Only (20 ∷ 21 ∷ 22 ∷ 11 ∷ 9 ∷ []) (transformRows refinement blocks values quantisers room)
-  pub merges : (s : Setting) (pixels : ℕ) (base residual : List ℤ) (table : List ℕ) (room : ℕ) → Only (20 ∷ 21 ∷ 11 ∷ 9 ∷ []) (mergeRows s pixels base residual table room)
+  pub acWrite : (plane blocks : ℕ) (codes : Table) (values : List ℤ) (room : ℕ)
+      → Only (20 ∷ 21 ∷ 10 ∷ 11 ∷ 19 ∷ 9 ∷ []) (acWriteRows plane blocks codes values room)
+  pub transforms : (refinement blocks : ℕ) (values : List ℤ) (quantisers : List ℕ) (room : ℕ)
+      → Only (20 ∷ 21 ∷ 22 ∷ 11 ∷ 9 ∷ []) (transformRows refinement blocks values quantisers room)
+  pub merges : (s : Setting) (pixels : ℕ) (base residual : List ℤ) (table : List ℕ) (room : ℕ)
+      → Only (20 ∷ 21 ∷ 11 ∷ 9 ∷ []) (mergeRows s pixels base residual table room)
 
 -- ---- "Always refusing, and one constant picture, break demand 2's values."
 
@@ -83,7 +87,8 @@ five = record { dc = pos 5 ∷ []; ac = replicate 63 (pos 0) }
 
 -- D5: the full value is not there after the first of two planes
 abbrev pub FinalAtOnce : Type 0
-FinalAtOnce = (lent : ℕ → Provided) (h : Refined 2 1 five lent) → climb (λ i values. readPlane i 1 (lent i) (h .plane i) values) 1 (levelOf 2 five 0) ≡ some five → ⊥
+FinalAtOnce =
+    (lent : ℕ → Provided) (h : Refined 2 1 five lent) → climb (λ i values. readPlane i 1 (lent i) (h .plane i) values) 1 (levelOf 2 five 0) ≡ some five → ⊥
 
 -- and "doubling without reading": without a bit DC 2 becomes 4
 abbrev pub four : Both ℤ
@@ -91,7 +96,8 @@ four = record { dc = pos 4 ∷ []; ac = replicate 63 (pos 0) }
 
 -- D5: after both planes the value is not 4
 abbrev pub DoubledUnread : Type 0
-DoubledUnread = (lent : ℕ → Provided) (h : Refined 2 1 five lent) → climb (λ i values. readPlane i 1 (lent i) (h .plane i) values) 2 (levelOf 2 five 0) ≡ some four → ⊥
+DoubledUnread =
+    (lent : ℕ → Provided) (h : Refined 2 1 five lent) → climb (λ i values. readPlane i 1 (lent i) (h .plane i) values) 2 (levelOf 2 five 0) ≡ some four → ⊥
 
 -- ---- "Cases marked P are proved as one statement over one list": none is missing
 

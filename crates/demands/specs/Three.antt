@@ -83,7 +83,8 @@ pub record Refined (k n : ℕ) (full : Both ℤ) (lent : ℕ → Provided) : Typ
 -- D3: the demand
 abbrev pub DemandThree : Type 0
 DemandThree =
-    (k n : ℕ) (full : Both ℤ) (lent : ℕ → Provided) → k ≤ 4 → Within k n full → ((j : ℕ) → 1 ≤ j → j ≤ k → Enough n (levelOf k full j) (lent j)) → Refined k n full lent
+    (k n : ℕ) (full : Both ℤ) (lent : ℕ → Provided) → k ≤ 4 → Within k n full
+    → ((j : ℕ) → 1 ≤ j → j ≤ k → Enough n (levelOf k full j) (lent j)) → Refined k n full lent
 
 -- D3: its conditions can be met: whatever the values, there is a table that holds every code needed, and room
 abbrev pub CanBeMet : Type 0

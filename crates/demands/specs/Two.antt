@@ -116,7 +116,8 @@ pub record Merged (s : Setting) (pixels : ℕ) (base residual : List ℤ) (table
   pub fits : length ys ≤ room
 
 -- D2: the merge for C and Rust: the numbers of its setting name something, and the matrix is as long as the setting asks
-pub record MergeCalled (named : Bool) (s : Setting) (pixels : ℕ) (base residual : List ℤ) (table : List ℕ) (matrix : List ℤ) (room : ℕ) (ys : List ℕ) : Type 0 where
+pub record MergeCalled (named : Bool) (s : Setting) (pixels : ℕ) (base residual : List ℤ) (table : List ℕ) (matrix : List ℤ) (room : ℕ)
+    (ys : List ℕ) : Type 0 where
   pub known : named ≡ true
   pub weights : length matrix ≡ matrixCount (s .matrix)
   pub merged : Merged s pixels base residual table room ys
@@ -146,7 +147,8 @@ pub record DemandTwo : Type 0 where
   pub merges : (s : Setting) (pixels : ℕ) (base residual : List ℤ) (table : List ℕ) (before after : List ℕ) (answer : Answer)
       → Meets 0 (merge s pixels base residual table (length before)) before after answer
       → Exactly (Merged s pixels base residual table (length before)) after answer
-  pub mergeCalls : (named : Bool) (s : Setting) (pixels : ℕ) (base residual : List ℤ) (table : List ℕ) (matrix : List ℤ) (before after : List ℕ) (answer : Answer)
+  pub mergeCalls : (named : Bool) (s : Setting) (pixels : ℕ) (base residual : List ℤ) (table : List ℕ) (matrix : List ℤ)
+      (before after : List ℕ) (answer : Answer)
       → Meets 0 (mergeCall named s pixels base residual table matrix (length before)) before after answer
       → Exactly (MergeCalled named s pixels base residual table matrix (length before)) after answer
 
@@ -179,7 +181,8 @@ AcValuesAre =
 -- T8: "floor((sum of K(x,u) K(y,v) S + 2^27) / 2^28) + 2^(7+R)", S being "the value times its quantiser", both "in zigzag order"
 abbrev pub sampleAt : ℕ → List ℤ → List ℕ → ℕ → ℕ → ℕ → ℤ
 sampleAt refinement values quantisers block y x =
-    shrZ (sumTo 8 (λ v. sumTo 8 (λ u. kernel x u *ℤ kernel y v *ℤ (getD values (block * 64 + zigzag v u) (pos 0) *ℤ pos (getD quantisers (zigzag v u) 0)))) +ℤ pos (2 ^ 27)) (2 ^ 28)
+    shrZ (sumTo 8 (λ v. sumTo 8 (λ u. kernel x u *ℤ kernel y v *ℤ (getD values (block * 64 + zigzag v u) (pos 0) *ℤ pos (getD quantisers (zigzag v u) 0))))
+    +ℤ pos (2 ^ 27)) (2 ^ 28)
     +ℤ pos (2 ^ (7 + refinement))
 
 -- T8: "The sample at row y, column x"; "a block's samples stand row by row"

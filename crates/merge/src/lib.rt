@@ -73,7 +73,8 @@ fn fill_one(
 )
     requires { ⌜ Lending s pixels (now base) (now residual) (now table) ⌝ }
     requires { ⌜ (s .components ≡ 1) × (samples s pixels ≤ length (now destination)) ⌝ }
-    ensures { λ r. ⌜ now (destination .exit) ≡ mergedPicture s pixels (now (base .entry)) (now (residual .entry)) (now (table .entry)) ++ drop (samples s pixels) (now (destination .entry)) ⌝ }
+    ensures { λ r. ⌜ now (destination .exit) ≡ mergedPicture s pixels (now (base .entry)) (now (residual .entry)) (now (table .entry))
+        ++ drop (samples s pixels) (now (destination .entry)) ⌝ }
 {
     let mut p = 0;
     while p < pixels {
@@ -94,7 +95,8 @@ fn fill_three(
 )
     requires { ⌜ Lending s pixels (now base) (now residual) (now table) ⌝ }
     requires { ⌜ (s .components ≡ 3) × (samples s pixels ≤ length (now destination)) ⌝ }
-    ensures { λ r. ⌜ now (destination .exit) ≡ mergedPicture s pixels (now (base .entry)) (now (residual .entry)) (now (table .entry)) ++ drop (samples s pixels) (now (destination .entry)) ⌝ }
+    ensures { λ r. ⌜ now (destination .exit) ≡ mergedPicture s pixels (now (base .entry)) (now (residual .entry)) (now (table .entry))
+        ++ drop (samples s pixels) (now (destination .entry)) ⌝ }
 {
     let mut p = 0;
     while p < pixels {
@@ -119,7 +121,8 @@ fn fill_by(
 )
     requires { ⌜ Lending s pixels (now base) (now residual) (now table) ⌝ }
     requires { ⌜ samples s pixels ≤ length (now destination) ⌝ }
-    ensures { λ r. ⌜ now (destination .exit) ≡ mergedPicture s pixels (now (base .entry)) (now (residual .entry)) (now (table .entry)) ++ drop (samples s pixels) (now (destination .entry)) ⌝ }
+    ensures { λ r. ⌜ now (destination .exit) ≡ mergedPicture s pixels (now (base .entry)) (now (residual .entry)) (now (table .entry))
+        ++ drop (samples s pixels) (now (destination .entry)) ⌝ }
 {
     if s.components == 1 {
         fill_one(s, pixels, base, residual, table, destination);
@@ -139,7 +142,8 @@ fn fill_srgb(
 )
     requires { ⌜ Passed s pixels (now base) (now residual) (now table) × (s .curve ≡ Srgb) ⌝ }
     requires { ⌜ samples s pixels ≤ length (now destination) ⌝ }
-    ensures { λ r. ⌜ now (destination .exit) ≡ mergedPicture s pixels (now (base .entry)) (now (residual .entry)) (now (table .entry)) ++ drop (samples s pixels) (now (destination .entry)) ⌝ }
+    ensures { λ r. ⌜ now (destination .exit) ≡ mergedPicture s pixels (now (base .entry)) (now (residual .entry)) (now (table .entry))
+        ++ drop (samples s pixels) (now (destination .entry)) ⌝ }
 {
     let tones = curves::srgb_table();
     fill_by(s, pixels, base, residual, &tones, destination);
@@ -156,7 +160,8 @@ fn fill_straight(
 )
     requires { ⌜ Passed s pixels (now base) (now residual) (now table) × (s .curve ≡ Straight) ⌝ }
     requires { ⌜ samples s pixels ≤ length (now destination) ⌝ }
-    ensures { λ r. ⌜ now (destination .exit) ≡ mergedPicture s pixels (now (base .entry)) (now (residual .entry)) (now (table .entry)) ++ drop (samples s pixels) (now (destination .entry)) ⌝ }
+    ensures { λ r. ⌜ now (destination .exit) ≡ mergedPicture s pixels (now (base .entry)) (now (residual .entry)) (now (table .entry))
+        ++ drop (samples s pixels) (now (destination .entry)) ⌝ }
 {
     if pixels < rounding::power(9 + s.rh) as usize {
         fill_by(s, pixels, base, residual, table, destination);
@@ -185,7 +190,8 @@ fn fill(
 )
     requires { ⌜ Passed s pixels (now base) (now residual) (now table) ⌝ }
     requires { ⌜ samples s pixels ≤ length (now destination) ⌝ }
-    ensures { λ r. ⌜ now (destination .exit) ≡ mergedPicture s pixels (now (base .entry)) (now (residual .entry)) (now (table .entry)) ++ drop (samples s pixels) (now (destination .entry)) ⌝ }
+    ensures { λ r. ⌜ now (destination .exit) ≡ mergedPicture s pixels (now (base .entry)) (now (residual .entry)) (now (table .entry))
+        ++ drop (samples s pixels) (now (destination .entry)) ⌝ }
 {
     let curve = s.curve;
     match curve {
@@ -211,7 +217,8 @@ fn try_merge(
     table: &[u16],
     destination: &mut [u16],
 ) -> answers::Outcome
-    ensures { λ r. ⌜ Tried 0 (merge s pixels (now (base .entry)) (now (residual .entry)) (now (table .entry)) (length (now (destination .entry)))) (now (destination .entry)) (now (destination .exit)) r ⌝ }
+    ensures { λ r. ⌜ Tried 0 (merge s pixels (now (base .entry)) (now (residual .entry)) (now (table .entry)) (length (now (destination .entry))))
+        (now (destination .entry)) (now (destination .exit)) r ⌝ }
 {
     if !settings::in_ranges(s, pixels) {
         return answers::refuse(20, 0);
@@ -246,7 +253,8 @@ pub fn merge(
     table: &[u16],
     destination: &mut [u16],
 ) -> answers::Answer
-    ensures { λ r. ⌜ Meets 0 (merge s pixels (now (base .entry)) (now (residual .entry)) (now (table .entry)) (length (now (destination .entry)))) (now (destination .entry)) (now (destination .exit)) r ⌝ }
+    ensures { λ r. ⌜ Meets 0 (merge s pixels (now (base .entry)) (now (residual .entry)) (now (table .entry)) (length (now (destination .entry))))
+        (now (destination .entry)) (now (destination .exit)) r ⌝ }
 {
     let tried = try_merge(s, pixels, base, residual, table, destination);
     match tried {

@@ -68,7 +68,11 @@ residualCount Present count = count
 -- N13, M5: base, residual and table are as long as the setting asks
 unfoldable pub lengthsRight : Setting → ℕ → List ℤ → List ℤ → List ℕ → Bool
 lengthsRight s pixels base residual table =
-    every (eqb (length base) (samples s pixels) ∷ eqb (length residual) (residualCount (s .residual) (samples s pixels)) ∷ eqb (length table) (entries (s .curve) (s .rh)) ∷ [])
+    every (
+    eqb (length base) (samples s pixels)
+    ∷ eqb (length residual) (residualCount (s .residual) (samples s pixels))
+    ∷ eqb (length table) (entries (s .curve) (s .rh))
+    ∷ [])
 
 -- ---- 11: "each at most 2^(8+Rb)-1, else 11"
 

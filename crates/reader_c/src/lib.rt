@@ -22,7 +22,8 @@ pub extern "C" fn xt_box_bytes(
     destination: &mut [u8],
     place: &mut u64,
 ) -> u32
-    ensures { λ r. ⌜ Meets 0 (boxBytes (now (file .entry)) kind instance (length (now (destination .entry)))) (now (destination .entry)) (now (destination .exit)) (record { number = r; place = now (place .exit) }) ⌝ }
+    ensures { λ r. ⌜ Meets 0 (boxBytes (now (file .entry)) kind instance (length (now (destination .entry))))
+        (now (destination .entry)) (now (destination .exit)) (record { number = r; place = now (place .exit) }) ⌝ }
 {
     let a = boxes::box_bytes(file, kind, instance, destination);
     *place = a.place as u64;
@@ -32,7 +33,8 @@ pub extern "C" fn xt_box_bytes(
 // C1, C4: the listing of a file's packets as text.
 #[no_mangle]
 pub extern "C" fn xt_list_packets(file: &[u8], text: &mut [u8], place: &mut u64) -> u32
-    ensures { λ r. ⌜ Meets 0 (listPackets (now (file .entry)) (length (now (text .entry)))) (now (text .entry)) (now (text .exit)) (record { number = r; place = now (place .exit) }) ⌝ }
+    ensures { λ r. ⌜ Meets 0 (listPackets (now (file .entry)) (length (now (text .entry))))
+        (now (text .entry)) (now (text .exit)) (record { number = r; place = now (place .exit) }) ⌝ }
 {
     let a = listing_text::list_packets(file, text);
     *place = a.place as u64;
@@ -49,7 +51,8 @@ pub extern "C" fn xt_read_dc_plane(
     destination: &mut [i32],
     place: &mut u64,
 ) -> u32
-    ensures { λ r. ⌜ Meets (pos 0) (readDc plane blocks (now (values .entry)) (now («data» .entry)) (length (now (destination .entry)))) (now (destination .entry)) (now (destination .exit)) (record { number = r; place = now (place .exit) }) ⌝ }
+    ensures { λ r. ⌜ Meets (pos 0) (readDc plane blocks (now (values .entry)) (now («data» .entry)) (length (now (destination .entry))))
+        (now (destination .entry)) (now (destination .exit)) (record { number = r; place = now (place .exit) }) ⌝ }
 {
     let a = planes::read_dc(plane, blocks, data, values, destination);
     *place = a.place as u64;
@@ -65,7 +68,8 @@ pub extern "C" fn xt_write_dc_plane(
     destination: &mut [u8],
     place: &mut u64,
 ) -> u32
-    ensures { λ r. ⌜ Meets 0 (writeDc plane blocks (now (values .entry)) (length (now (destination .entry)))) (now (destination .entry)) (now (destination .exit)) (record { number = r; place = now (place .exit) }) ⌝ }
+    ensures { λ r. ⌜ Meets 0 (writeDc plane blocks (now (values .entry)) (length (now (destination .entry))))
+        (now (destination .entry)) (now (destination .exit)) (record { number = r; place = now (place .exit) }) ⌝ }
 {
     let a = planes::write_dc(plane, blocks, values, destination);
     *place = a.place as u64;
@@ -82,7 +86,8 @@ pub extern "C" fn xt_inverse_transform(
     destination: &mut [i32],
     place: &mut u64,
 ) -> u32
-    ensures { λ r. ⌜ Meets (pos 0) (inverseTransform refinement blocks (now (values .entry)) (now (quantisers .entry)) (length (now (destination .entry)))) (now (destination .entry)) (now (destination .exit)) (record { number = r; place = now (place .exit) }) ⌝ }
+    ensures { λ r. ⌜ Meets (pos 0) (inverseTransform refinement blocks (now (values .entry)) (now (quantisers .entry)) (length (now (destination .entry))))
+        (now (destination .entry)) (now (destination .exit)) (record { number = r; place = now (place .exit) }) ⌝ }
 {
     let a = transform::inverse_transform(refinement, blocks, values, quantisers, destination);
     *place = a.place as u64;
@@ -119,7 +124,8 @@ pub extern "C" fn xt_write_ac_plane(
     destination: &mut [u8],
     place: &mut u64,
 ) -> u32
-    ensures { λ r. ⌜ Meets 0 (writeAc plane blocks (table (now (counts .entry)) (now (codes .entry))) (now (values .entry)) (length (now (destination .entry)))) (now (destination .entry)) (now (destination .exit)) (record { number = r; place = now (place .exit) }) ⌝ }
+    ensures { λ r. ⌜ Meets 0 (writeAc plane blocks (table (now (counts .entry)) (now (codes .entry))) (now (values .entry)) (length (now (destination .entry))))
+        (now (destination .entry)) (now (destination .exit)) (record { number = r; place = now (place .exit) }) ⌝ }
 {
     let a = ac_writer::write_ac(plane, blocks, counts, codes, values, destination);
     *place = a.place as u64;
@@ -250,7 +256,9 @@ fn merge_or_not(
     matrix: &[i16],
     destination: &mut [u16],
 ) -> answers::Answer
-    ensures { λ r. ⌜ Meets 0 (mergeCall named s pixels (now (base .entry)) (now (residual .entry)) (now (table .entry)) (now (matrix .entry)) (length (now (destination .entry)))) (now (destination .entry)) (now (destination .exit)) r ⌝ }
+    ensures { λ r. ⌜ Meets 0 (mergeCall named s pixels
+        (now (base .entry)) (now (residual .entry)) (now (table .entry)) (now (matrix .entry)) (length (now (destination .entry))))
+        (now (destination .entry)) (now (destination .exit)) r ⌝ }
 {
     let number = setting_number(named, s, pixels, matrix);
     if number != 0 {
@@ -280,7 +288,10 @@ pub extern "C" fn xt_merge(
     destination: &mut [u16],
     place: &mut u64,
 ) -> u32
-    ensures { λ r. ⌜ Meets 0 (mergeCall (known tint curve matrixed added retint) (settingOf rb rh rr components tint curve matrixed (now (matrix .entry)) added retint) pixels (now (base .entry)) (now (residual .entry)) (now (table .entry)) (now (matrix .entry)) (length (now (destination .entry)))) (now (destination .entry)) (now (destination .exit)) (record { number = r; place = now (place .exit) }) ⌝ }
+    ensures { λ r. ⌜ Meets 0 (mergeCall (known tint curve matrixed added retint)
+        (settingOf rb rh rr components tint curve matrixed (now (matrix .entry)) added retint) pixels
+        (now (base .entry)) (now (residual .entry)) (now (table .entry)) (now (matrix .entry)) (length (now (destination .entry))))
+        (now (destination .entry)) (now (destination .exit)) (record { number = r; place = now (place .exit) }) ⌝ }
 {
     let s = merge_rules::Setting {
         rb,
