@@ -1,10 +1,11 @@
 /* A proved reader and writer for JPEG XT finish pictures: the calls of libreader_c.a (made by `rt staticlib reader_c`).
+ * Letters with numbers, as C1, name the rules of docs/RULES.md.
  *
- * Every call ends on every input and checks its own input. It returns a number of the table below and writes a place
+ * C1: every call ends on every input and checks its own input. It returns a number of the table below and writes a place
  * through its last parameter. With XT_DONE the place is the count of bytes or values written, and everything past the
  * written part of the destination keeps its contents. With any other number the whole lent destination is zeros.
  *
- * A slice is a pointer and a length in elements. A pointer is never NULL, not even with the length 0; source and
+ * C2: a slice is a pointer and a length in elements. A pointer is never NULL, not even with the length 0; source and
  * destination do not overlap; `place` points to a uint64_t. Blocks and indices count from 0.
  */
 #ifndef AUHOWIPI_H
@@ -75,9 +76,10 @@ static inline const char *xt_meaning(uint32_t number)
     return number < sizeof meanings / sizeof meanings[0] ? meanings[number] : "no such number";
 }
 
-/* ---- boxes. `type` is its four bytes as a number, LPTS is 0x4C505453. */
+/* ---- boxes */
 
-/* The bytes of one box, assembled from its packets in any file order. Takes 128 KiB of stack, no other call takes as much. */
+/* C3: `type` is its four bytes as a number, LPTS is 0x4C505453. The bytes of one box, assembled from its packets in any file
+ * order. Takes 128 KiB of stack, no other call takes as much. */
 uint32_t xt_box_bytes(const uint8_t *file, size_t file_len, uint32_t type, uint16_t instance,
                       uint8_t *destination, size_t destination_len, uint64_t *place);
 
@@ -107,8 +109,9 @@ uint32_t xt_inverse_transform(uint32_t refinement, size_t blocks, const int32_t 
                               const uint16_t *quantisers, size_t quantisers_len, int32_t *destination,
                               size_t destination_len, uint64_t *place);
 
-/* ---- the merge to 9 to 16 bits. Component planes follow one another. base_transform, residual_transform: 0 identity, 1 the
- * transform. curve: 0 straight, 1 the lent table, 2 inverse sRGB. matrix_on, residual_on: 0 or 1. What is not used is empty. */
+/* ---- the merge to 9 to 16 bits. Component planes follow one another. What is not used is empty.
+ * C5: base_transform, residual_transform: 0 identity, 1 the transform. curve: 0 straight, 1 the lent table, 2 inverse sRGB.
+ * matrix_on, residual_on: 0 absent, 1 present. */
 uint32_t xt_merge(uint32_t rb, uint32_t rh, uint32_t rr, uint32_t components, size_t pixels, uint32_t base_transform,
                   uint32_t curve, uint32_t matrix_on, uint32_t residual_on, uint32_t residual_transform, const int32_t *base,
                   size_t base_len, const int32_t *residual, size_t residual_len, const uint16_t *table, size_t table_len,

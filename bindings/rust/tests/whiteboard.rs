@@ -1,4 +1,4 @@
-//! The readings of document 01 ("Readings from the whiteboard") through the Rust calls, and a round trip.
+//! The whiteboard's readings (docs/RULES.md, S1 to S5, S7 and S8) through the Rust calls, and a round trip.
 use auhowipi::*;
 
 const LPTS: [u8; 4] = *b"LPTS";

@@ -1,4 +1,4 @@
--- What the AC writer sees in its values and does at a position, on each side of each edge of 01, worked out by hand and computed over the definitions. Assumes nothing.
+-- What the AC writer sees in its values and does at a position, on each side of each edge (E4 to E8), worked out by hand and computed over the definitions. Assumes nothing.
 use mathlib.Core.Path.{_≡_, refl}
 use mathlib.Core.List.{List, [], _∷_, _++_, map}
 use mathlib.Core.Bool.{true, false}

@@ -1,4 +1,4 @@
-// What the AC writer sees in its values (01, "The writer takes level j values, .. and codes them against their halves").
+// What the AC writer sees in its values (docs/RULES.md, E4 to E8).
 ghost use mathlib.Core.Path.{_≡_};
 ghost use Prim.Native.Nat.{_*_, _≤_};
 ghost use lib.ListN.{length};

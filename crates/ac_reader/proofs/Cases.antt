@@ -1,4 +1,4 @@
--- Readings of AC planes by computation: the rules of 01 that its case c (`planes`, proofs/Cases) does not meet. Assumes nothing.
+-- Readings of AC planes by computation: the rules R5 to R16 where case c of the whiteboard (plane_rules/proofs/Cases) does not meet them. Assumes nothing.
 use mathlib.Core.Path.{_≡_, refl}
 use mathlib.Core.List.{List, [], _∷_, _++_, map}
 use Prim.Native.Nat.{ℕ}
@@ -30,7 +30,7 @@ longRun = table (0 ∷ 3 ∷ replicate 14 0) (0x00 ∷ 0x01 ∷ 0x10 ∷ [])
 -- one block, plane 1
 abbrev pub rules : List Reading
 rules =
-    -- sign 1, then correction 0: "reading corrections before the sign bit" would give 7 and -1
+    -- sign 1, then correction 0: "Reading corrections before the sign bit." would give 7 and -1
     reading T (block (pos 3)) (0x63 ∷ []) (given (pos 6 ∷ pos 1 ∷ zeros 61))
     -- "through the 16th zero, which stays zero"
     ∷ reading T (zeros 63) (0x99 ∷ []) (given (zeros 16 ++ (pos 1 ∷ zeros 46)))

@@ -56,7 +56,8 @@ pub record Carries (bytes : List ℕ) (values before now : List ℤ) (o o′ : O
 
 -- or to the end of the block
 pub record Closes (bytes : List ℕ) (values before now : List ℤ) (o : Option Task) (c : Cursor) (i : ℕ) (r : Block) : Type 0 where
-  pub same : (T : Table) (left : ℕ) (o₀ : Option Task) (c₀ : Cursor) → At bytes T left values before o₀ o c₀ c i → blockOf bytes now r ≡ acBlock T left o₀ values (sourceOf bytes c₀)
+  pub same : (T : Table) (left : ℕ) (o₀ : Option Task) (c₀ : Cursor) → At bytes T left values before o₀ o c₀ c i
+      → blockOf bytes now r ≡ acBlock T left o₀ values (sourceOf bytes c₀)
 
 abbrev pub Steps : List ℕ → List ℤ → List ℤ → List ℤ → Option Task → Cursor → ℕ → Step → Type 0
 Steps bytes values before now o c i (On j d) = Carries bytes values before now o none c d i j × (i < j)

@@ -1,4 +1,4 @@
--- What 01 says of writing an AC plane, on each side of each edge, worked out by hand and computed over the definitions. Assumes nothing.
+-- Writing an AC plane (E1 to E10), on each side of each edge, worked out by hand and computed over the definitions. Assumes nothing.
 use mathlib.Core.Path.{_≡_, refl}
 use mathlib.Core.List.{List, [], _∷_, _++_, map}
 use Prim.Native.Nat.{ℕ}

@@ -61,7 +61,8 @@ pub record Carries (before after : List ℕ) (p r : Putter) (block : List ℤ) (
   pub bits : List Bool
   pub put : Puts before after p r bits
   pub few : length bits + i ≤ j
-  pub same : (later : List (List Kind)) → writeBlock o (kindsFrom block i) later ≡ (map raw bits ++ writeBlock o′ (kindsFrom block j) later .0, writeBlock o′ (kindsFrom block j) later .1)
+  pub same : (later : List (List Kind))
+      → writeBlock o (kindsFrom block i) later ≡ (map raw bits ++ writeBlock o′ (kindsFrom block j) later .0, writeBlock o′ (kindsFrom block j) later .1)
 
 -- the same of a pen and a task
 pub record Works (before after : List ℕ) (p : Pen) (t : Task) (from : ℕ) (block : List ℤ) (r : Moved) : Type 0 where

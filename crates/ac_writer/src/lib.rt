@@ -1,4 +1,4 @@
-// AC planes written (01, "The writer takes level j values, j 1 to 4"): one pass that puts the bits and keeps the first code that the table lacks.
+// AC planes written (docs/RULES.md, E1 to E10): one pass that puts the bits and keeps the first code that the table lacks.
 ghost use mathlib.Core.Path.{_≡_};
 ghost use mathlib.Core.Bool.{Bool, true};
 ghost use mathlib.Core.List.{[], _∷_};

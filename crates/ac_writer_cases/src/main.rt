@@ -70,7 +70,7 @@ fn write_some(
 }
 
 fn main() {
-    // Table T of 01: values 00, 01, F0.
+    // Table T of S3: values 00, 01, F0.
     write_some(b"corrected", 1, 1, b"\x00\x01\xF0", 0, 7, 0, 63, 4);
     write_some(b"toward-zero", 1, 1, b"\x00\x01\xF0", 0, -3, 0, 63, 4);
     write_some(b"new-value", 1, 1, b"\x00\x01\xF0", 0, 1, 0, 63, 4);

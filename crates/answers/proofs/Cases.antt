@@ -1,4 +1,4 @@
--- What a call returns and leaves (01, "Numbers a call can return"), worked out by hand. Assumes nothing.
+-- What a call returns and leaves (N1 to N4, N12), worked out by hand. Assumes nothing.
 use mathlib.Core.Path.{_≡_, refl}
 use mathlib.Core.Bool.{true, false}
 use mathlib.Core.List.{List, [], _∷_, map}
@@ -24,7 +24,7 @@ pub ordered : map (λ (v : Verdict ℕ). v)
     ≡ refused (refusal 20 0) ∷ refused (refusal 21 1) ∷ refused (refusal 11 4) ∷ given (5 ∷ []) ∷ []
 ordered = refl
 
--- "destination too short: length needed", both sides
+-- "destination too short", "length needed", both sides
 pub room : (fitting {A = ℕ} 2 (1 ∷ 2 ∷ 3 ∷ []) ≡ refused (refusal 9 3)) × (fitting {A = ℕ} 3 (1 ∷ 2 ∷ 3 ∷ []) ≡ given (1 ∷ 2 ∷ 3 ∷ []))
 room = (refl, refl)
 

@@ -1,4 +1,4 @@
-// Bits taken one by one through a reader that holds its data: a line for each case, with the bits, the number that 01 gives, and the bytes read.
+// Bits taken one by one through a reader that holds its data: a line for each case, with the bits, the number that is given, and the bytes read.
 use bits::Cursor;
 use bits::Taken;
 
@@ -73,7 +73,7 @@ fn main() {
     // No data: nothing asked, a bit asked.
     show(b"", 0);
     show(b"", 1);
-    // "FF as last byte is 12"; another byte after FF; "the 00 is tested and counted with its FF".
+    // "FF as last byte is 12"; another byte after FF; "The 00 is tested and counted with its FF.".
     show(b"\xFF", 1);
     show(b"\xFF\x01", 1);
     show(b"\xFF\x00", 1);

@@ -1,4 +1,4 @@
--- What 01 says of bits and bytes, on each side of each edge, worked out by hand and computed over the definitions. Assumes nothing.
+-- Bits and bytes (B1 to B7), on each side of each edge, worked out by hand and computed over the definitions. Assumes nothing.
 use mathlib.Core.Path.{_≡_, refl}
 use mathlib.Core.List.{List, [], _∷_, _++_, map}
 use mathlib.Core.Bool.{Bool, true, false}

@@ -1,4 +1,4 @@
--- What 01 says of code tables, on each side of each edge, worked out by hand and computed over the definitions. Assumes nothing.
+-- Code tables (K1 to K6), on each side of each edge, worked out by hand and computed over the definitions. Assumes nothing.
 use mathlib.Core.Path.{_≡_, refl}
 use mathlib.Core.List.{List, [], _∷_, _++_, map}
 use mathlib.Core.Bool.{Bool, true, false}

@@ -116,7 +116,7 @@ code-trip T v k s u g e f =
     let f′ : Gives s (codeAt (T .counts) 0 1 k) u = rw e at f in
     code-read (T .counts) (T .values) 0 0 k (a .0) (a .1) s u (a .2) c (rw (a .3, z) at f′) ∙ ap (λ (x : ℕ). got x u) (w .1)
 
--- "no code begins another"
+-- K4: no code begins another
 pub prefix-free : (T : Table) (v w k j : ℕ) (rest : List Bool) → goodTable T ≡ true → placeOf v (T .values) ≡ At k → placeOf w (T .values) ≡ At j
     → word T w ≡ word T v ++ rest → v ≡ w
 prefix-free T v w k j rest g p q e =

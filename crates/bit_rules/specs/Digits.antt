@@ -11,7 +11,7 @@ bin false = 0
 abbrev pub odd : ℕ → Bool
 odd n = eqb (n % 2) 1
 
--- the n low bits of v, the highest first
+-- B1: the n low bits of v, the highest first
 unfoldable pub digits : ℕ → ℕ → List Bool
 digits zero v = []
 digits (suc n) v = odd (v / 2 ^ n) ∷ digits n v

@@ -6,7 +6,7 @@ use Prim.Native.Nat.{ℕ, _+_, _<_}
 use lib.ListN.{length, replicate}
 use Rattle.bit_rules.specs.Source.{Source, source, got, takeBit}
 
--- from s on these bits are taken, and u is left
+-- K4: from s on these bits are taken, and u is left
 abbrev pub Gives : Source → List Bool → Source → Type 0
 Gives s [] u = s ≡ u
 Gives s (b ∷ bits) u = (t : Source) × (takeBit s ≡ got b t) × Gives t bits u

@@ -11,15 +11,15 @@ use Rattle.bit_rules.specs.Table.{Table}
 use Rattle.bit_rules.specs.Read.{takeCode}
 use Rattle.bit_rules.specs.Write.{placeOf, word}
 
--- the value stands in the table
+-- K4: the value stands in the table
 abbrev pub Has : Table → ℕ → Type 0
 Has T v = (k : ℕ) × (placeOf v (T .values) ≡ At k)
 
--- no value's word begins these bits
+-- K5: no value's word begins these bits
 abbrev pub NoWord : Table → List Bool → Type 0
 NoWord T bits = (v : ℕ) (rest : List Bool) → Has T v → bits ≡ word T v ++ rest → ⊥
 
--- a value is read exactly where its word comes next; "16 bits and no code" is told exactly where 16 bits come next and no word begins them
+-- K4, K5: a value is read exactly where its word comes next; "16 bits and no code" is told exactly where 16 bits come next and no word begins them
 pub record ReadByWords (T : Table) : Type 0 where
   pub read : (v : ℕ) (s t : Source) → takeCode T s ≡ got v t → Has T v × Gives s (word T v) t
   pub reads : (v : ℕ) (s t : Source) → Has T v × Gives s (word T v) t → takeCode T s ≡ got v t

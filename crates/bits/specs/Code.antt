@@ -24,6 +24,7 @@ highs (suc n) byte = eqb (byte / 128) 1 ∷ highs n (byte % 128 * 2)
 unfoldable pub sourceOf : List ℕ → Cursor → Source
 sourceOf bytes c = source (highs (c .left) (c .byte)) (drop (c .at) bytes) (c .at)
 
+-- N15: what the code's answer stands for
 unfoldable pub takenOf : List ℕ → Taken → Out Bool
 takenOf bytes (Bit b c) = got b (sourceOf bytes c)
 takenOf bytes Ended = stopped (stop 12)

@@ -1,4 +1,4 @@
-// Bits out of coded bytes, and bytes out of bits, highest bit first, with 00 after FF (01, "Refinement planes").
+// Bits out of coded bytes, and bytes out of bits, highest bit first, with 00 after FF (docs/RULES.md, B1 to B7).
 pub mod reader;
 
 ghost use mathlib.Core.Path.{_≡_};

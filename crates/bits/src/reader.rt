@@ -1,4 +1,4 @@
-// A reader that holds the lent data and its place in it (01, "A byte is read only when a bit of it is needed").
+// A reader that holds the lent data and its place in it (B3: "A byte is read only when a bit of it is needed.").
 // Each function takes it apart and leaves the work to a function of the crate over the slice and a cursor.
 use crate::Cursor;
 use crate::Taken;

@@ -1,4 +1,5 @@
-// Replies of `box_out`, what it says on either side written here on standard output: the box of case a, each kind of refusal that has a line, a file that is too long, and words that ask for nothing.
+// Replies of `box_out`, what it says on either side written here on standard output: the box of case a, each kind of refusal
+// that has a line, a file that is too long, and words that ask for nothing.
 fn say(text: &[u8]) {
     io::write_all(1, text);
 }

@@ -1,4 +1,4 @@
--- 01, cases a and b, a box of length 0, and each pair of refusals that stand next to one another as one input with both faults: worked out by hand, computed.
+-- The whiteboard's cases a and b (S1, S2), a box of length 0, and each pair of refusals that stand next to one another as one input with both faults: worked out by hand, computed.
 use Prim.Native.Nat.{ℕ}
 use mathlib.Core.Path.{_≡_, refl}
 use mathlib.Core.List.{List, [], _∷_}
@@ -36,7 +36,7 @@ one = file (packet 21 1 11 (0xAA ∷ 0xBB ∷ 0xCC ∷ end))
 abbrev two : ℕ → List ℕ
 two q = file (packet 21 1 11 (0xAA ∷ 0xBB ∷ 0xCC ∷ packet 21 q 11 (0xAA ∷ 0xBB ∷ 0xCC ∷ end)))
 
--- "LPTS, 1 gives AA BB CC. LPTS, 2 gives 4." "both numbered 1: 6, place 1. Numbered 1 and 3: 7, place 2."
+-- "LPTS, 1 gives AA BB CC.", "LPTS, 2 gives 4." "both numbered 1: 6, place 1. Numbered 1 and 3: 7, place 2."
 -- "LBox 8 with no payload is a box of length 0." File order doesn't matter; another type's packets don't either.
 -- Room: one byte too few, and one more than is needed.
 pub cases : (asked one 1 3 ≡ given (0xAA ∷ 0xBB ∷ 0xCC ∷ []))

@@ -1,4 +1,4 @@
--- The law of 01: bytes are handed out exactly if an ordering exists, then these are the bytes, and two orderings give the same. Assumes nothing.
+-- The law of P11: bytes are handed out exactly if an ordering exists, then these are the bytes, and two orderings give the same. Assumes nothing.
 use Prim.Native.Nat.{ℕ, zero, suc, _+_, _-_, _≤_, _<_}
 use mathlib.Core.Path.{_≡_, refl, ap, ap₂, sym, subst, _∙_}
 use mathlib.Core.Logic.{⊎-elim}
@@ -390,7 +390,7 @@ given-makes p r room b e =
 
 -- ---- the law, for a call
 
--- where 01's sentence hands out bytes, the call does
+-- where that sentence hands out bytes, the call does
 pub handed-given : (file : List ℕ) (kind instance room : ℕ) (b : List ℕ) → HandedOut file kind instance room b → boxBytes file kind instance room ≡ given b
 unfolding boxBytes
 handed-given file kind instance room b h = rw (h .well) (go (mine kind instance (packets file)) (h .some) (h .makes))
@@ -400,7 +400,7 @@ handed-given file kind instance room b h = rw (h .well) (go (mine kind instance 
     go (p ∷ r) s m =
         makes-given p r (h .order) (h .stated) room m (subst (λ (x : List ℕ). length x ≤ room) (h .bytes) (h .fits)) ∙ ap given (sym (h .bytes))
 
--- where the call hands out bytes, 01's sentence does
+-- where the call hands out bytes, that sentence does
 pub given-handed : (file : List ℕ) (kind instance room : ℕ) (b : List ℕ) → boxBytes file kind instance room ≡ given b → HandedOut file kind instance room b
 unfolding boxBytes assemble
 given-handed file kind instance room b e = go (ending (walk file)) refl e (mine kind instance (packets file)) refl

@@ -1,4 +1,4 @@
--- 01's listing of the picture in case a, and of files on both sides of each rule, worked out by hand and computed. Texts are in ASCII, with the words above them.
+-- The listing of the picture in case a (S1), and of files on both sides of each rule, worked out by hand and computed. Texts are in ASCII, with the words above them.
 use Prim.Native.Nat.{ℕ}
 use mathlib.Core.Path.{_≡_, refl}
 use mathlib.Core.List.{List, [], _∷_, _++_}
@@ -27,7 +27,7 @@ pub case-a : listing picture ≡ first ++ (49 ∷ 32 ∷ 49 ∷ 32 ∷ 51 ∷ 32
 unfolding picture be16 be32 headAt ones barred tagged packetAt wholeAt sizedAt markedAt stepAt stepsIn stepsFrom begins walk ending packetsIn packets line lines header answer listing decIn dec glyph hex
 case-a = refl
 
--- "answer 1 0"
+-- `answer 1 0`
 pub empty-file : listing [] ≡ first ++ (97 ∷ 110 ∷ 115 ∷ 119 ∷ 101 ∷ 114 ∷ 32 ∷ 49 ∷ 32 ∷ 48 ∷ 10 ∷ [])
 unfolding begins walk ending packetsIn packets line lines header answer listing decIn dec
 empty-file = refl
@@ -37,7 +37,7 @@ abbrev packet : ℕ → ℕ → List ℕ → List ℕ
 packet high low r =
     0xFF ∷ 0xEB ∷ 0 ∷ 20 ∷ 0x4A ∷ 0x50 ∷ 0xFF ∷ 0xFF ∷ 0 ∷ 0 ∷ high ∷ low ∷ 0 ∷ 0 ∷ 0xFF ∷ 0x00 ∷ 0xAB ∷ 0xCD ∷ 0xEF ∷ 0x01 ∷ 7 ∷ 7 ∷ r
 
--- "Lines stand in file order", "`bytes` the packet's own payload", whatever its LBox: "65535 300 2 ABCDEF01" and "65535 10 2 ABCDEF01"
+-- "Lines stand in file order", "`bytes` the packet's own payload", whatever its LBox: `65535 300 2 ABCDEF01` and `65535 10 2 ABCDEF01`
 pub listed : listing (0xFF ∷ 0xD8 ∷ packet 1 44 (packet 0 10 (0xFF ∷ 0xDA ∷ [])))
     ≡ first
     ++ (54 ∷ 53 ∷ 53 ∷ 51 ∷ 53 ∷ 32 ∷ 51 ∷ 48 ∷ 48 ∷ 32 ∷ 50 ∷ 32 ∷ 65 ∷ 66 ∷ 67 ∷ 68 ∷ 69 ∷ 70 ∷ 48 ∷ 49 ∷ 10 ∷ [])
@@ -46,7 +46,7 @@ pub listed : listing (0xFF ∷ 0xD8 ∷ packet 1 44 (packet 0 10 (0xFF ∷ 0xDA 
 unfolding be16 be32 headAt ones barred tagged packetAt wholeAt sizedAt markedAt stepAt stepsIn stepsFrom begins walk ending packetsIn packets line lines header answer listing decIn dec glyph hex
 listed = refl
 
--- "a refused walk gives the header and `answer` with number and place only": a packet in front of a marker 00, and of a tag with length 4: "answer 2 24", "answer 3 24".
+-- "a refused walk gives the header and `answer` with number and place only": a packet in front of a marker 00, and of a tag with length 4: `answer 2 24`, `answer 3 24`.
 -- A good walk without packets: "answer 0 0".
 pub refused-walks : (listing (0xFF ∷ 0xD8 ∷ packet 0 10 (0xFF ∷ 0x00 ∷ [])) ≡ first ++ (97 ∷ 110 ∷ 115 ∷ 119 ∷ 101 ∷ 114 ∷ 32 ∷ 50 ∷ 32 ∷ 50 ∷ 52 ∷ 10 ∷ []))
     × (listing (0xFF ∷ 0xD8 ∷ packet 0 10 (0xFF ∷ 0xEB ∷ 0 ∷ 4 ∷ 0x4A ∷ 0x50 ∷ [])) ≡ first ++ (97 ∷ 110 ∷ 115 ∷ 119 ∷ 101 ∷ 114 ∷ 32 ∷ 51 ∷ 32 ∷ 50 ∷ 52 ∷ 10 ∷ []))
@@ -67,7 +67,7 @@ pub numerals : (dec 0 ≡ 48 ∷ [])
 unfolding line answer decIn dec glyph hex
 numerals = (refl, refl, refl, refl, refl, refl, refl, refl, refl)
 
--- the largest number, digit by digit, and its line: "65535 4294967295 2 ABCDEF01"
+-- the largest number, digit by digit, and its line: `65535 4294967295 2 ABCDEF01`
 largest : dec 4294967295 ≡ 52 ∷ 50 ∷ 57 ∷ 52 ∷ 57 ∷ 54 ∷ 55 ∷ 50 ∷ 57 ∷ 53 ∷ []
 largest =
     rw (

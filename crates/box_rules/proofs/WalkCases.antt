@@ -1,4 +1,4 @@
--- 01's rules of the walk, worked out by hand on both sides of each edge, and computed. Each file begins FF D8, so that no place is 0 by chance.
+-- The rules of the walk (W1 to W9), worked out by hand on both sides of each edge, and computed. Each file begins FF D8, so that no place is 0 by chance.
 use Prim.Native.Nat.{ℕ}
 use mathlib.Core.Path.{_≡_, refl}
 use mathlib.Core.List.{List, [], _∷_}
@@ -37,7 +37,7 @@ pub numbers : (be16 (9 ∷ 0x12 ∷ 0x34 ∷ []) 1 ≡ 0x1234) × (be32 (9 ∷ 0
 unfolding be16 be32
 numbers = (refl, refl)
 
--- "A segment is FF, any further FF fill, a marker byte": no FF, fill to the end, fill in front of a marker. "The walk ends well at marker DA."
+-- "A segment is FF, any further FF fill, a marker byte": no FF, fill to the end, fill in front of a marker. "The walk ends well at marker DA, needing nothing after it."
 -- "Markers 00, 01, D0 to D9 .. give 2": both sides of each edge, each in front of the length 2.
 pub marked : (first [] ≡ no 2 2)
     × (first (0xFF ∷ []) ≡ no 2 2)

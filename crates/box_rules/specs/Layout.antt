@@ -1,4 +1,4 @@
--- 01, "Packets and boxes", as a writer sees it: the bytes of a number, a segment, a packet and a file. Nothing here knows of the walk.
+-- W10: a file as a writer sees it, the bytes of a number, a segment, a packet and a file. Nothing here knows of the walk.
 use Prim.Native.Nat.{ℕ, suc, _+_, _/_, _%_, _≤_, _<_}
 use mathlib.Core.Path.{_≡_}
 use mathlib.Core.Logic.{_⊎_}
@@ -6,59 +6,65 @@ use mathlib.Core.List.{List, [], _∷_, _++_}
 use lib.ListN.{length, replicate}
 use Rattle.box_rules.specs.Packets.{Packet}
 
--- what a file is made of: packets and other segments, each with fill bytes in front of its marker
+-- W10: what a file is made of: packets and other segments, each with fill bytes in front of its marker
 pub data Part : Type 0 where
   packed : (fill : ℕ) → Packet → Part
   other : (fill marker : ℕ) → List ℕ → Part
 
--- "All numbers are big-endian."
+-- W2: "All numbers are big-endian."
 unfoldable pub two : ℕ → List ℕ
 two n = n / 256 ∷ n % 256 ∷ []
 
+-- W2: the same in four bytes
 unfoldable pub four : ℕ → List ℕ
 four n = two (n / 65536) ++ two (n % 65536)
 
--- "A segment is FF, any further FF fill, a marker byte, a two-byte length that counts itself, contents."
+-- W4: "A segment is FF, any further FF fill, a marker byte, a two-byte length that counts itself, contents."
 unfoldable pub segment : ℕ → ℕ → List ℕ → List ℕ
 segment fill marker contents = replicate (suc fill) 0xFF ++ (marker ∷ two (length contents + 2) ++ contents)
 
--- "4A 50, instance (2), sequence number (4), LBox (4), type (4), payload"
+-- P1: "4A 50, instance (2), sequence number (4), LBox (4), type (4), payload"
 unfoldable pub inner : Packet → List ℕ
 inner p = 0x4A ∷ 0x50 ∷ two (p .head .instance) ++ four (p .head .number) ++ four (p .head .stated) ++ four (p .head .kind) ++ p .payload
 
+-- W10: the bytes of a part; the marker of a packet is EB
 unfoldable pub bytesOf : Part → List ℕ
 bytesOf (packed fill p) = segment fill 0xEB (inner p)
 bytesOf (other fill marker contents) = segment fill marker contents
 
+-- W10: the parts one after another
 unfoldable pub allBytes : List Part → List ℕ
 allBytes [] = []
 allBytes (x ∷ r) = bytesOf x ++ allBytes r
 
--- FF D8, the segments, FF with any fill, DA, and anything behind it
+-- W10: FF D8, the segments, FF with any fill, DA, and anything behind it
 unfoldable pub laidOut : List Part → ℕ → List ℕ → List ℕ
 laidOut parts fill behind = (0xFF ∷ 0xD8 ∷ []) ++ (allBytes parts ++ (replicate (suc fill) 0xFF ++ (0xDA ∷ behind)))
 
--- the packets among them, in file order
+-- W10: the packets among them, in file order
 unfoldable pub packetsOf : List Part → List Packet
 packetsOf [] = []
 packetsOf (packed fill p ∷ r) = p ∷ packetsOf r
 packetsOf (other fill marker contents ∷ r) = packetsOf r
 
--- a packet whose LBox is 8 at least; a segment whose marker carries a length (02 to CF, DB to FE) and that is no packet
+-- W10: a packet whose LBox is 8 at least
 pub record Boxed (p : Packet) : Type 0 where
   pub least : 8 ≤ p .head .stated
   pub eight : p .head .heading ≡ 8
 
+-- W10: a segment whose marker carries a length (02 to CF, DB to FE) and that is no packet
 pub record Plain (marker : ℕ) (contents : List ℕ) : Type 0 where
   pub low : 2 ≤ marker
   pub high : marker < 255
   pub carries : (marker < 0xD0) ⊎ (0xDA < marker)
   pub untagged : marker ≡ 0xEB → (r : List ℕ) → contents ≡ 0x4A ∷ 0x50 ∷ r → ⊥
 
+-- W10: what makes a part sound
 abbrev pub Sound : Part → Type 0
 Sound (packed fill p) = Boxed p
 Sound (other fill marker contents) = Plain marker contents
 
+-- W10: every part is sound
 abbrev pub AllSound : List Part → Type 0
 AllSound [] = Unit
 AllSound (x ∷ r) = Sound x × AllSound r

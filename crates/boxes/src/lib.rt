@@ -1,4 +1,4 @@
-// One box assembled from its packets (01, "Packets and boxes").
+// One box assembled from its packets (docs/RULES.md, P4 to P12).
 use answers::Answer;
 use answers::Outcome;
 use answers::Refusal;
@@ -270,7 +270,8 @@ fn put_window(
     to: usize,
 ) -> usize
     requires { ⌜ Windowed (mineOf (now file) kind instance) passed k (length (now places)) to (length (now destination)) ⌝ }
-    ensures { λ r. ⌜ (now (destination .exit) ≡ putAt (now (destination .entry)) to (joinedFrom k (passed + 1) (mineOf (now (file .entry)) kind instance))) × (r ≡ to + length (joinedFrom k (passed + 1) (mineOf (now (file .entry)) kind instance))) ⌝ }
+    ensures { λ r. ⌜ (now (destination .exit) ≡ putAt (now (destination .entry)) to (joinedFrom k (passed + 1) (mineOf (now (file .entry)) kind instance)))
+        × (r ≡ to + length (joinedFrom k (passed + 1) (mineOf (now (file .entry)) kind instance))) ⌝ }
 {
     windows::locate(file, kind, instance, passed, places);
     let mut i: usize = 0;
@@ -326,7 +327,8 @@ fn put_by_number(file: &[u8], kind: u32, instance: u16, n: usize, destination: &
 }
 
 fn try_box(file: &[u8], kind: u32, instance: u16, destination: &mut [u8]) -> Outcome
-    ensures { λ r. ⌜ Tried 0 (boxBytes (now (file .entry)) kind instance (length (now (destination .entry)))) (now (destination .entry)) (now (destination .exit)) r ⌝ }
+    ensures { λ r. ⌜ Tried 0 (boxBytes (now (file .entry)) kind instance (length (now (destination .entry))))
+        (now (destination .entry)) (now (destination .exit)) r ⌝ }
 {
     match judged(file, kind, instance, destination.len()) {
         Ready::Not(r) => Outcome::Refused(r),
@@ -343,7 +345,8 @@ fn try_box(file: &[u8], kind: u32, instance: u16, destination: &mut [u8]) -> Out
 
 // The bytes of the box of a type and instance.
 pub fn box_bytes(file: &[u8], kind: u32, instance: u16, destination: &mut [u8]) -> Answer
-    ensures { λ r. ⌜ Meets 0 (boxBytes (now (file .entry)) kind instance (length (now (destination .entry)))) (now (destination .entry)) (now (destination .exit)) r ⌝ }
+    ensures { λ r. ⌜ Meets 0 (boxBytes (now (file .entry)) kind instance (length (now (destination .entry))))
+        (now (destination .entry)) (now (destination .exit)) r ⌝ }
 {
     let o = try_box(file, kind, instance, destination);
     match o {

@@ -41,7 +41,7 @@ pub record Entered (counts : List ℕ) (found : Found) (entry : ℕ) : Type 0 wh
 pub record Entries (T : Table) (entries : List ℕ) : Type 0 where
   pub each : (v : ℕ) → v < 256 → Entered (T .counts) (placeOf v (T .values)) (getD entries v 0)
 
--- what the code's answer stands for
+-- N15: what the code's answer stands for
 unfoldable pub codedOf : List ℕ → Coded → Out ℕ
 codedOf bytes (Value v c) = got v (sourceOf bytes c)
 codedOf bytes (Stopped x) = stopped x

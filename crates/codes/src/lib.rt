@@ -1,4 +1,4 @@
-// Code tables of T.81, Annex C: validity, reading a code, the code of a value (01, "An AC plane has a code table").
+// Code tables of T.81, Annex C: validity, reading a code, the code of a value (docs/RULES.md, K1 to K6).
 ghost use mathlib.Core.Path.{_≡_};
 ghost use mathlib.Core.Bool.{true};
 ghost use Prim.Native.Nat.{_<_};

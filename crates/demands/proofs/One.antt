@@ -44,7 +44,7 @@ use Rattle.demands.proofs.Blocks.{dc-stops, stops-dc, dc-left, left-dc,
 use Rattle.demands.proofs.Stops.{dc-blocks, ac-blocks, closed-judged, sizes, cut-sizes, cut-length}
 use Rattle.demands.proofs.Walked.{box-judged}
 
--- "value out of range: first index", both ways
+-- "value out of range", "first index", both ways
 outside-first : (part : Part) (level : ℕ) (values : List ℤ) (i : ℕ) → firstOutside part level values ≡ At i → First (length values) (inside part level values) i
 unfolding firstOutside
 outside-first part level values i e = first-index (length values) (inside part level values) i e

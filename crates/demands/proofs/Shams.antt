@@ -73,7 +73,7 @@ numbers-are = record {
   merges = λ s pixels base residual table room. row-in 20 _ tt with row-in 20 _ tt with row-in 20 _ tt with row-in 21 _ tt with row-in 11 _ tt with row-in 9 _ tt;
 }
 
--- ---- values that 01 has: readings of the whiteboard, by their place in its list
+-- ---- values that the rules have: readings of the whiteboard, by their place in its list
 
 same-verdict : {v w : Verdict ℤ} → integers v ≡ integers w → v ≡ w
 same-verdict e = cc

@@ -1,4 +1,4 @@
--- The whiteboard's readings that 01 marks P (a, c, d, e, f, g), as one list.
+-- S1 to S9: the whiteboard's readings marked P (cases a, c, d, e, f, g), as one list.
 use mathlib.Core.Path.{_≡_}
 use mathlib.Core.List.{List, [], _∷_, map}
 use Prim.Native.Nat.{ℕ}
@@ -21,7 +21,7 @@ use Rattle.merge_rules.specs.Pixels.{Pixel, triple}
 use Rattle.merge_rules.specs.Steps.{stepOne}
 use Rattle.merge_rules.specs.Picture.{merge}
 
--- what is asked: a call with its inputs and the room lent, or step 1 of the merge for a pixel
+-- S9: what is asked: a call with its inputs and the room lent, or step 1 of the merge for a pixel
 pub data Asked : Type 0 where
   box : List ℕ → ℕ → ℕ → ℕ → Asked
   acRead : ℕ → ℕ → Table → List ℤ → List ℕ → ℕ → Asked
@@ -30,13 +30,13 @@ pub data Asked : Type 0 where
   firstStep : Setting → Pixel ℤ → Asked
   merged : Setting → ℕ → List ℤ → List ℤ → List ℕ → ℕ → Asked
 
--- what it comes to
+-- S9: what it comes to
 pub data Result : Type 0 where
   naturals : Verdict ℕ → Result
   integers : Verdict ℤ → Result
   pixel : Pixel ℕ → Result
 
--- by the definitions of 01
+-- S9: by the definitions
 unfoldable pub resultOf : Asked → Result
 resultOf (box file kind instance room) = naturals (boxBytes file kind instance room)
 resultOf (acRead plane blocks T values bytes room) = integers (readAc plane blocks T values bytes room)
@@ -45,42 +45,45 @@ resultOf (transformed refinement blocks values quantisers room) = integers (inve
 resultOf (firstStep setting p) = pixel (stepOne setting p)
 resultOf (merged setting pixels base residual curve room) = naturals (merge setting pixels base residual curve room)
 
--- one reading, and what the whiteboard says of it
+-- S9: a reading, and what the whiteboard says of it
 pub record Case : Type 0 where
   pub asked : Asked
   pub says : Result
 
+-- S9: the same, to be read as a sentence
 infixr 6 _gives_
 abbrev pub _gives_ : Asked → Result → Case
 _gives_ asked says = record { asked = asked; says = says }
 
 -- ---- what the readings are taken from
 
--- a. "FF D8 FF EB 00 15 4A 50 00 01 00 00 00 01 00 00 00 0B 4C 50 54 53 AA BB CC FF DA"
+-- S1: "FF D8 FF EB 00 15 4A 50 00 01 00 00 00 01 00 00 00 0B 4C 50 54 53 AA BB CC FF DA"
 abbrev pub file : List ℕ
 file =
     0xFF ∷ 0xD8 ∷ 0xFF ∷ 0xEB ∷ 0x00 ∷ 0x15 ∷ 0x4A ∷ 0x50 ∷ 0x00 ∷ 0x01 ∷ 0x00 ∷ 0x00 ∷ 0x00 ∷ 0x01 ∷ 0x00 ∷ 0x00 ∷ 0x00 ∷ 0x0B
     ∷ 0x4C ∷ 0x50 ∷ 0x54 ∷ 0x53 ∷ 0xAA ∷ 0xBB ∷ 0xCC ∷ 0xFF ∷ 0xDA ∷ []
 
+-- P3, S1: "4C 50 54 53", as one number
 abbrev pub lpts : ℕ
 lpts = 0x4C505453
 
--- "Table T: lengths 2, values 00, 01, F0 (codes 00, 01, 10)."
+-- S3: "Table T: lengths 2, values 00, 01, F0 (codes 00, 01, 10)."
 abbrev pub tableT : Table
 tableT = table (0 ∷ 3 ∷ replicate 14 0) (0x00 ∷ 0x01 ∷ 0xF0 ∷ [])
 
--- a block of an AC plane, zero but for its first value
+-- S3: a block of an AC plane, zero but for its first value
 abbrev pub block : ℤ → List ℤ
 block first = first ∷ replicate 62 (pos 0)
 
--- e. "Only S at DC, R 0": one block, each quantiser 1
+-- S5: "Only S at DC, R 0": one block, each quantiser 1
 abbrev pub onlyDc : ℤ → Asked
 onlyDc s = transformed 0 1 (s ∷ replicate 63 (pos 0)) (replicate 64 1) 64
 
+-- S5: "everywhere": all 64 samples
 abbrev pub everywhere : ℤ → Result
 everywhere value = integers (given (replicate 64 value))
 
--- "Rh 0", "Rb 4, straight"; at Rr 4 a residual is after step 4 what it was before
+-- S6: "Rh 0", "Rb 4, straight"; at Rr 4 a residual is after step 4 what it was before
 abbrev pub setting : ℕ → Colour → Residual → Setting
 setting components colour residual =
     record {
@@ -96,24 +99,28 @@ setting components colour residual =
       «residual_transform» = Identity;
     }
 
--- g. one pixel of one component, alone or with a residual
+-- S7: one pixel of one component, without a residual
 abbrev pub baseAlone : ℤ → Asked
 baseAlone base = merged (setting 1 Identity Absent) 1 (base ∷ []) [] [] 1
 
+-- S7: the same with a residual
 abbrev pub with : ℤ → ℤ → Asked
 with base residual = merged (setting 1 Identity Present) 1 (base ∷ []) (residual ∷ []) [] 1
 
+-- S7: one sample of the result
 abbrev pub oneSample : ℕ → Result
 oneSample n = naturals (given (n ∷ []))
 
 -- ---- the whiteboard
 
+-- S1, S3, S4, S5, S6, S7: the 16 readings marked P
 abbrev pub whiteboard : List Case
 whiteboard =
     -- a. "LPTS, 1 gives AA BB CC", "LPTS, 2 gives 4"
     (box file lpts 1 3 gives naturals (given (0xAA ∷ 0xBB ∷ 0xCC ∷ [])))
     ∷ (box file lpts 2 3 gives naturals (refused (refusal 4 0)))
-    -- c. "T, one zero block, data 67: AC 1 becomes 1", "Position 1 at 3, data 3F: 7", "Same, data 43: 6, then -1 at position 2", "Zero block, data 43: 18, place 1"
+    -- c. "T, one zero block, data 67: AC 1 becomes 1", "Position 1 at 3, data 3F: 7", "Same, data 43: 6, then -1 at position 2",
+    -- "Zero block, data 43: 18, place 1"
     ∷ (acRead 1 1 tableT (block (pos 0)) (0x67 ∷ []) 63 gives integers (given (block (pos 1))))
     ∷ (acRead 1 1 tableT (block (pos 3)) (0x3F ∷ []) 63 gives integers (given (block (pos 7))))
     ∷ (acRead 1 1 tableT (block (pos 3)) (0x43 ∷ []) 63 gives integers (given (pos 6 ∷ negsuc 0 ∷ replicate 61 (pos 0))))
@@ -134,6 +141,6 @@ whiteboard =
     ∷ (with (pos 0) (pos 2000) gives oneSample 0)
     ∷ []
 
--- every reading is what the whiteboard says
+-- S9: every reading is what the whiteboard says
 abbrev pub WhiteboardHolds : Type 0
 WhiteboardHolds = map (λ (c : Case). resultOf (c .asked)) whiteboard ≡ map (λ (c : Case). c .says) whiteboard

@@ -1,5 +1,4 @@
--- Demand 1: "Each call ends on every input and checks its own input. A refusal gives its number and place from document 01, and the lent
--- destination then holds only zeros."
+-- D1: each call ends on every input and checks its own input; a refusal gives its number and place, and the lent destination then holds only zeros.
 use mathlib.Core.Path.{_≡_}
 use mathlib.Core.Logic.{_⊎_}
 use mathlib.Core.Bool.{Bool, true, false, cond}
@@ -37,37 +36,39 @@ use Rattle.merge_rules.specs.Picture.{merge}
 use Rattle.merge_rules.specs.Call.{matrixCount, mergeCall}
 use Rattle.demands.specs.Blocks.{StopsAt, LeftOver, oneDc, oneAc}
 
--- ---- 01's table: which number with which place, and when
+-- ---- the table of N4: which number with which place, and when
 
+-- N4: which number is told with which place
 abbrev pub Rows : Type 1
 Rows = ℕ → ℕ → Type 0
 
--- a number, and what it means at a place
+-- N4: a number, and what it means at a place
 abbrev pub row : ℕ → (ℕ → Type 0) → Rows
 row number means = λ n p. (n ≡ number) × means p
 
--- numbers of one rank, met in the order in which the data are read
+-- N4: a number stands in a list
 abbrev pub stands : ℕ → List ℕ → Bool
 stands n [] = false
 stands n (x ∷ numbers) = cond (eqb n x) true (stands n numbers)
 
+-- N4: numbers of one rank, met in the order in which the data are read
 abbrev pub rows : List ℕ → Rows → Rows
 rows numbers means = λ n p. T (stands n numbers) × means n p
 
--- "A number is given exactly under its meaning and this order": a later row tells where no earlier one does
+-- N4: "A number is given exactly under its meaning and this order": a later row tells where no earlier one does
 infixr 5 _then_
 abbrev pub _then_ : Rows → Rows → Rows
 _then_ first later = λ n p. first n p ⊎ (((m q : ℕ) → first m q → ⊥) × later n p)
 
--- place "0": a test fails
+-- N4: place "0": a test fails
 abbrev pub failing : Bool → ℕ → Type 0
 failing test p = (p ≡ 0) × (test ≡ false)
 
--- "length needed", and there is no room for it
+-- N12: "length needed", and there is no room for it
 abbrev pub needed : ℕ → ℕ → ℕ → Type 0
 needed n room p = (p ≡ n) × (room < p)
 
--- "first index": the test fails there, and nowhere before
+-- L5: "first index": the test fails there, and nowhere before
 pub record First (n : ℕ) (test : ℕ → Bool) (p : ℕ) : Type 0 where
   pub below : p < n
   pub fails : test p ≡ false
@@ -75,62 +76,63 @@ pub record First (n : ℕ) (test : ℕ → Bool) (p : ℕ) : Type 0 where
 
 -- ---- an answer
 
--- "With 0 the place is the count of bytes or values written"; "everything past the written part keeps its contents"
+-- D1: "With 0 the place is the count of bytes or values written"; "everything past the written part keeps its contents"
 pub record Succeeded {A : Type 0} (before after : List A) (answer : Answer) : Type 0 where
   pub well : answer .number ≡ 0
   pub written : answer .place ≤ length before
   pub long : length after ≡ length before
   pub past : drop (answer .place) after ≡ drop (answer .place) before
 
--- a row of the table, told by a number that is not 0, and "the whole lent destination is zeros"
+-- D1: a row of the table, told by a number that is not 0, and "the whole lent destination is zeros"
 pub record Turned {A : Type 0} (zero : A) (table : Rows) (before after : List A) (answer : Answer) : Type 0 where
   pub line : table (answer .number) (answer .place)
   pub told : answer .number ≡ 0 → ⊥
   pub zeros : after ≡ replicate (length before) zero
 
--- what is answered, and that nothing else could be: whatever the rows tell is the answer
+-- N4, D1: what is answered, and that nothing else could be: whatever the rows tell is the answer
 pub record Answered {A : Type 0} (zero : A) (table : Rows) (before after : List A) (answer : Answer) : Type 0 where
   pub outcome : Succeeded before after answer ⊎ Turned zero table before after answer
   pub only : (n p : ℕ) → table n p → (answer .number ≡ n) × (answer .place ≡ p)
 
 -- ---- the rows of each call
 
--- where the walk over a file comes by
+-- W3: where the walk over a file comes by
 pub data Reached (file : List ℕ) : ℕ → Type 0 where
   first : Reached file 2
   skipped : {at next : ℕ} → Reached file at → stepAt file at ≡ Skip next → Reached file next
   met : {at start len next : ℕ} {head : Head} → Reached file at → stepAt file at ≡ Meet head start len next → Reached file next
 
--- 2 "where it was to begin", 3 "where its segment begins": the walk comes by, and the step there is broken
+-- W6: 2 "where it was to begin", 3 "where its segment begins": the walk comes by, and the step there is broken
 abbrev pub brokenAt : List ℕ → ℕ → ℕ → Type 0
 brokenAt file number p = Reached file p × (stepAt file p ≡ Broken (refusal number p))
 
--- 6 "the smallest such"
+-- P7: 6 "the smallest such"
 abbrev pub twiceAt : List ℕ → ℕ → Type 0
 twiceAt ns p = (1 < count p ns) × ((j : ℕ) → j < p → count j ns ≤ 1)
 
--- 7 "smallest missing of 1..n"
+-- P8: 7 "smallest missing of 1..n"
 abbrev pub missingAt : List ℕ → ℕ → Type 0
 missingAt ns p = (1 ≤ p) × (p < 1 + length ns) × (count p ns ≡ 0) × ((j : ℕ) → 1 ≤ j → j < p → 1 ≤ count j ns)
 
--- 4 "no packet of this type and instance"
+-- P5: 4 "no packet of this type and instance"
 abbrev pub nonePacket : List Packet → ℕ → Type 0
 nonePacket ps p = (p ≡ 0) × (ps ≡ [])
 
--- 5 "packets disagree on LBox"
+-- P6: 5 "packets disagree on LBox"
 abbrev pub agreed : List Packet → Bool
 agreed [] = true
 agreed (p ∷ ps) = agree (p .head) (p ∷ ps)
 
--- 8 "payload total is not LBox-8": "the total"
+-- P9: 8 "payload total is not LBox-8"
 abbrev pub filled : List Packet → Bool
 filled [] = true
 filled (p ∷ ps) = eqb (total (p ∷ ps)) (contents (p .head))
 
+-- P9: 8, and its place is "the total"
 abbrev pub notFilled : List Packet → ℕ → Type 0
 notFilled ps p = (p ≡ total ps) × (filled ps ≡ false)
 
--- "4 to 9 by number"
+-- N5: "4 to 9 by number"
 unfoldable pub packetRows : List Packet → ℕ → Rows
 packetRows ps room =
     row 4 (nonePacket ps)
@@ -140,12 +142,12 @@ packetRows ps room =
     then row 8 (notFilled ps)
     then row 9 (needed (total ps) room)
 
--- "boxes, 1 to 3 over the whole walk (first met, 2 before 3 at one segment), then 4 to 9"
+-- N5: "boxes, 1 to 3 over the whole walk (first met, 2 before 3 at one segment), then 4 to 9"
 unfoldable pub boxRows : List ℕ → ℕ → ℕ → ℕ → Rows
 boxRows file kind instance room =
     row 1 (failing (begins file)) then rows (2 ∷ 3 ∷ []) (brokenAt file) then packetRows (mine kind instance (packets file)) room
 
--- "Plane reading: 20, 21, 10, 11, 9, then 12 to 18 as the bits are met"
+-- N7: "Plane reading: 20, 21, 10, 11, 9, then 12 to 18 as the bits are met"
 unfoldable pub dcReadRows : ℕ → ℕ → List ℤ → List ℕ → ℕ → Rows
 dcReadRows plane blocks values bytes room =
     row 20 (failing (every (readable plane blocks)))
@@ -155,6 +157,7 @@ dcReadRows plane blocks values bytes room =
     then rows (12 ∷ 13 ∷ []) (StopsAt oneDc tt values (start bytes))
     then row 18 (LeftOver oneDc tt values (start bytes))
 
+-- N7: the same for an AC plane, which has a table
 unfoldable pub acReadRows : ℕ → ℕ → Table → List ℤ → List ℕ → ℕ → Rows
 acReadRows plane blocks codes values bytes room =
     row 20 (failing (every (readable plane blocks)))
@@ -165,11 +168,11 @@ acReadRows plane blocks codes values bytes room =
     then rows (12 ∷ 13 ∷ 14 ∷ 15 ∷ 16 ∷ 17 ∷ []) (StopsAt (oneAc codes) none (cut blocks values) (start bytes))
     then row 18 (LeftOver (oneAc codes) none (cut blocks values) (start bytes))
 
--- a listing has its text whatever the file: a walk's refusal, and 20 for a file over 64 KiB, stand in the text
+-- N6: a listing has its text whatever the file: a walk's refusal, and 20 for a file over 64 KiB, stand in the text
 unfoldable pub listRows : List ℕ → ℕ → Rows
 listRows file room = row 9 (needed (length (listing file)) room)
 
--- "Plane writing: 20, 21, 10, 11, 19 (first needed in writing order), 9"
+-- N8: "Plane writing: 20, 21, 10, 11, 19 (first needed in writing order), 9"
 unfoldable pub dcWriteRows : ℕ → ℕ → List ℤ → ℕ → Rows
 dcWriteRows plane blocks values room =
     row 20 (failing (every (writable plane blocks)))
@@ -177,7 +180,7 @@ dcWriteRows plane blocks values room =
     then row 11 (First (length values) (inside Dc plane values))
     then row 9 (needed (length (dcBytes values)) room)
 
--- 19 "the code's value": the table lacks it, and holds every code that is written before it
+-- E9: 19 "the code's value": the table lacks it, and holds every code that is written before it
 pub record FirstLacking (codes : Table) (ts : List Token) (v : ℕ) : Type 0 where
   pub earlier : List Token
   pub later : List Token
@@ -185,6 +188,7 @@ pub record FirstLacking (codes : Table) (ts : List Token) (v : ℕ) : Type 0 whe
   pub lacks : placeOf v (codes .values) ≡ Nothing
   pub held : lacking codes earlier ≡ Nothing
 
+-- N8: the same for an AC plane, which has a table
 unfoldable pub acWriteRows : ℕ → ℕ → Table → List ℤ → ℕ → Rows
 acWriteRows plane blocks codes values room =
     row 20 (failing (every (writable plane blocks)))
@@ -194,7 +198,7 @@ acWriteRows plane blocks codes values room =
     then row 19 (FirstLacking codes (tokens blocks values))
     then row 9 (needed (length (acBytes blocks codes values)) room)
 
--- "Transform: 20, 21, 22, 11, 9"
+-- N9: "Transform: 20, 21, 22, 11, 9"
 unfoldable pub transformRows : ℕ → ℕ → List ℤ → List ℕ → ℕ → Rows
 transformRows refinement blocks values quantisers room =
     row 20 (failing (every (leb refinement 4 ∷ leb blocks 1024 ∷ [])))
@@ -203,7 +207,7 @@ transformRows refinement blocks values quantisers room =
     then row 11 (First (length values) (inside Whole refinement values))
     then row 9 (needed (blocks * 64) room)
 
--- "Merge: 20, 21, 11, 9"
+-- N10: "Merge: 20, 21, 11, 9"
 unfoldable pub mergeRows : Setting → ℕ → List ℤ → List ℤ → List ℕ → ℕ → Rows
 mergeRows s pixels base residual table room =
     row 20 (failing (inRanges s pixels))
@@ -213,7 +217,7 @@ mergeRows s pixels base residual table room =
     then row 11 (First (length table) (entryRight (top (s .rb)) table))
     then row 9 (needed (samples s pixels) room)
 
--- the merge for C and Rust, whose setting comes as numbers: an unknown one is 20; the matrix is lent too, "nine signed 16-bit numbers" or none
+-- C6: the merge for C and Rust, whose setting comes as numbers: an unknown one is 20; the matrix is lent too, "nine signed 16-bit numbers" or none
 unfoldable pub mergeCallRows : Bool → Setting → ℕ → List ℤ → List ℤ → List ℕ → List ℤ → ℕ → Rows
 mergeCallRows named s pixels base residual table matrix room =
     row 20 (failing named)
@@ -227,6 +231,7 @@ mergeCallRows named s pixels base residual table matrix room =
 
 -- ---- the demand: whatever is lent, a call that meets its promise has answered so
 
+-- D1: each call, and its rows
 pub record DemandOne : Type 0 where
   pub boxes : (file : List ℕ) (kind instance : ℕ) (before after : List ℕ) (answer : Answer)
       → Meets 0 (boxBytes file kind instance (length before)) before after answer
@@ -252,6 +257,7 @@ pub record DemandOne : Type 0 where
   pub merges : (s : Setting) (pixels : ℕ) (base residual : List ℤ) (table : List ℕ) (before after : List ℕ) (answer : Answer)
       → Meets 0 (merge s pixels base residual table (length before)) before after answer
       → Answered 0 (mergeRows s pixels base residual table (length before)) before after answer
-  pub mergeCalls : (named : Bool) (s : Setting) (pixels : ℕ) (base residual : List ℤ) (table : List ℕ) (matrix : List ℤ) (before after : List ℕ) (answer : Answer)
+  pub mergeCalls : (named : Bool) (s : Setting) (pixels : ℕ) (base residual : List ℤ) (table : List ℕ) (matrix : List ℤ)
+      (before after : List ℕ) (answer : Answer)
       → Meets 0 (mergeCall named s pixels base residual table matrix (length before)) before after answer
       → Answered 0 (mergeCallRows named s pixels base residual table matrix (length before)) before after answer

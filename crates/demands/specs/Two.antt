@@ -1,5 +1,5 @@
--- Demand 2: box bytes, refined coefficients, samples and merged results are those of 01. A call hands out values exactly where 01 does, and
--- then it has written 01's values.
+-- D2: box bytes, listings, refined coefficients, written planes, samples and merged results are those of the rules. A call hands out values exactly
+-- where the rules have some, and then it has written these.
 use mathlib.Core.Path.{_≡_}
 use mathlib.Core.Bool.{Bool, true, false}
 use mathlib.Core.List.{List, [], _∷_, _++_}
@@ -39,16 +39,16 @@ use Rattle.merge_rules.specs.Settings.{inRanges, plain, srgbAllowed, lengthsRig
 use Rattle.merge_rules.specs.Picture.{pixelAt, mergedPicture, merge}
 use Rattle.merge_rules.specs.Call.{matrixCount, mergeCall}
 
--- what was written is right; and where 01 has values, these were written
+-- D2: what was written is right; and where the rules have values, these were written
 pub record Exactly {A : Type 0} (Right : List A → Type 0) (after : List A) (answer : Answer) : Type 0 where
   pub sound : answer .number ≡ 0 → Right (take (answer .place) after)
   pub complete : (ys : List A) → Right ys → (answer .number ≡ 0) × (take (answer .place) after ≡ ys)
 
--- ---- boxes: `HandedOut` is 01's sentence, "exactly if an ordering of all of them exists .."
+-- ---- boxes: `HandedOut` is P11, "exactly if an ordering of all of them exists .."
 
 -- ---- planes
 
--- "Plane j takes level j-1 values to level j"; "After the last block the unread bits of the byte must be ones and no byte may follow"
+-- D2: "Plane j takes level j-1 values to level j"; "After the last block the unread bits of the byte must be ones and no byte may follow"
 pub record DcRefined (plane blocks : ℕ) (values : List ℤ) (bytes : List ℕ) (room : ℕ) (ys : List ℤ) : Type 0 where
   pub counts : every (readable plane blocks) ≡ true
   pub long : length values ≡ blocks
@@ -58,6 +58,7 @@ pub record DcRefined (plane blocks : ℕ) (values : List ℤ) (bytes : List ℕ)
   pub refined : dcBlocks 0 values (start bytes) ≡ read ys left
   pub padded : onlyPadding left ≡ true
 
+-- D2: the same for an AC plane, which has a table
 pub record AcRefined (plane blocks : ℕ) (codes : Table) (values : List ℤ) (bytes : List ℕ) (room : ℕ) (ys : List ℤ) : Type 0 where
   pub counts : every (readable plane blocks) ≡ true
   pub long : length values ≡ 63 * blocks
@@ -68,12 +69,12 @@ pub record AcRefined (plane blocks : ℕ) (codes : Table) (values : List ℤ) (b
   pub refined : acBlocks codes 0 none (cut blocks values) (start bytes) ≡ read ys left
   pub padded : onlyPadding left ≡ true
 
--- the listing's text, given room
+-- D2: the listing's text, given room
 pub record Listed (file : List ℕ) (room : ℕ) (ys : List ℕ) : Type 0 where
   pub text : ys ≡ listing file
   pub fits : length ys ≤ room
 
--- "The writer takes level j values, j 1 to 4"
+-- D2: "The writer takes level j values, j 1 to 4"
 pub record DcCoded (plane blocks : ℕ) (values : List ℤ) (room : ℕ) (ys : List ℕ) : Type 0 where
   pub counts : every (writable plane blocks) ≡ true
   pub long : length values ≡ blocks
@@ -81,6 +82,7 @@ pub record DcCoded (plane blocks : ℕ) (values : List ℤ) (room : ℕ) (ys : L
   pub bytes : ys ≡ dcBytes values
   pub fits : length ys ≤ room
 
+-- D2: the same for an AC plane, whose table holds every code needed
 pub record AcCoded (plane blocks : ℕ) (codes : Table) (values : List ℤ) (room : ℕ) (ys : List ℕ) : Type 0 where
   pub counts : every (writable plane blocks) ≡ true
   pub long : length values ≡ 63 * blocks
@@ -92,6 +94,7 @@ pub record AcCoded (plane blocks : ℕ) (codes : Table) (values : List ℤ) (roo
 
 -- ---- samples
 
+-- D2: the samples of all blocks, where nothing is to be refused
 pub record Sampled (refinement blocks : ℕ) (values : List ℤ) (quantisers : List ℕ) (room : ℕ) (ys : List ℤ) : Type 0 where
   pub counts : every (leb refinement 4 ∷ leb blocks 1024 ∷ []) ≡ true
   pub lengths : every (eqb (length values) (blocks * 64) ∷ eqb (length quantisers) 64 ∷ []) ≡ true
@@ -102,6 +105,7 @@ pub record Sampled (refinement blocks : ℕ) (values : List ℤ) (quantisers : L
 
 -- ---- merged results
 
+-- D2: the merged picture, where nothing is to be refused
 pub record Merged (s : Setting) (pixels : ℕ) (base residual : List ℤ) (table : List ℕ) (room : ℕ) (ys : List ℕ) : Type 0 where
   pub ranges : inRanges s pixels ≡ true
   pub one : plain s ≡ true
@@ -111,14 +115,16 @@ pub record Merged (s : Setting) (pixels : ℕ) (base residual : List ℤ) (table
   pub results : ys ≡ mergedPicture s pixels base residual table
   pub fits : length ys ≤ room
 
--- the merge for C and Rust: the numbers of its setting name something, and the matrix is as long as the setting asks
-pub record MergeCalled (named : Bool) (s : Setting) (pixels : ℕ) (base residual : List ℤ) (table : List ℕ) (matrix : List ℤ) (room : ℕ) (ys : List ℕ) : Type 0 where
+-- D2: the merge for C and Rust: the numbers of its setting name something, and the matrix is as long as the setting asks
+pub record MergeCalled (named : Bool) (s : Setting) (pixels : ℕ) (base residual : List ℤ) (table : List ℕ) (matrix : List ℤ) (room : ℕ)
+    (ys : List ℕ) : Type 0 where
   pub known : named ≡ true
   pub weights : length matrix ≡ matrixCount (s .matrix)
   pub merged : Merged s pixels base residual table room ys
 
 -- ---- the demand: whatever is lent, a call that meets its promise
 
+-- D2: each call, and what is right for it
 pub record DemandTwo : Type 0 where
   pub boxes : (file : List ℕ) (kind instance : ℕ) (before after : List ℕ) (answer : Answer)
       → Meets 0 (boxBytes file kind instance (length before)) before after answer → Exactly (HandedOut file kind instance (length before)) after answer
@@ -141,48 +147,51 @@ pub record DemandTwo : Type 0 where
   pub merges : (s : Setting) (pixels : ℕ) (base residual : List ℤ) (table : List ℕ) (before after : List ℕ) (answer : Answer)
       → Meets 0 (merge s pixels base residual table (length before)) before after answer
       → Exactly (Merged s pixels base residual table (length before)) after answer
-  pub mergeCalls : (named : Bool) (s : Setting) (pixels : ℕ) (base residual : List ℤ) (table : List ℕ) (matrix : List ℤ) (before after : List ℕ) (answer : Answer)
+  pub mergeCalls : (named : Bool) (s : Setting) (pixels : ℕ) (base residual : List ℤ) (table : List ℕ) (matrix : List ℤ)
+      (before after : List ℕ) (answer : Answer)
       → Meets 0 (mergeCall named s pixels base residual table matrix (length before)) before after answer
       → Exactly (MergeCalled named s pixels base residual table matrix (length before)) after answer
 
 -- ---- the same value by value
 
--- the bytes that carry bits: "an FF data byte is followed by 00, which carries no bits"
+-- B2: the bytes that carry bits: "an FF data byte is followed by 00, which carries no bits"
 unfoldable pub carrying : Bool → List ℕ → List ℕ
 carrying behindFF [] = []
 carrying true (byte ∷ bytes) = carrying false bytes
 carrying false (byte ∷ bytes) = byte ∷ carrying (eqb byte 255) bytes
 
--- "Bits are taken from the highest of each byte"
+-- B2: "Bits are taken from the highest of each byte"
 unfoldable pub allBits : List ℕ → List Bool
 allBits [] = []
 allBits (byte ∷ bytes) = digits 8 byte ++ allBits bytes
 
--- "A DC plane is one bit per block: new DC = 2c + bit"
+-- R4: "A DC plane is one bit per block: new DC = 2c + bit"
 abbrev pub DcValuesAre : Type 0
 DcValuesAre =
     (plane blocks : ℕ) (values : List ℤ) (bytes : List ℕ) (room : ℕ) (ys : List ℤ) → DcRefined plane blocks values bytes room ys
     → (b : ℕ) → b < blocks → getD ys b (pos 0) ≡ pos 2 *ℤ getD values b (pos 0) +ℤ pos (bin (getD (allBits (carrying false bytes)) b false))
 
--- "A corrected value c becomes 2c, moved one away from zero if the bit is 1", and a zero stays or becomes +1 or -1: that is, half of the new value, toward zero, is the old one
+-- R6: "A corrected value c becomes 2c, moved one away from zero if the bit is 1", and a zero stays or becomes +1 or -1:
+-- that is, half of the new value, toward zero, is the old one
 abbrev pub AcValuesAre : Type 0
 AcValuesAre =
     (plane blocks : ℕ) (codes : Table) (values : List ℤ) (bytes : List ℕ) (room : ℕ) (ys : List ℤ) → AcRefined plane blocks codes values bytes room ys
     → (i : ℕ) → i < 63 * blocks → towardZero 1 (getD ys i (pos 0)) ≡ getD values i (pos 0)
 
--- "floor((sum of K(x,u) K(y,v) S + 2^27) / 2^28) + 2^(7+R)", S being "the value times its quantiser", both "in zigzag order"
+-- T8: "floor((sum of K(x,u) K(y,v) S + 2^27) / 2^28) + 2^(7+R)", S being "the value times its quantiser", both "in zigzag order"
 abbrev pub sampleAt : ℕ → List ℤ → List ℕ → ℕ → ℕ → ℕ → ℤ
 sampleAt refinement values quantisers block y x =
-    shrZ (sumTo 8 (λ v. sumTo 8 (λ u. kernel x u *ℤ kernel y v *ℤ (getD values (block * 64 + zigzag v u) (pos 0) *ℤ pos (getD quantisers (zigzag v u) 0)))) +ℤ pos (2 ^ 27)) (2 ^ 28)
+    shrZ (sumTo 8 (λ v. sumTo 8 (λ u. kernel x u *ℤ kernel y v *ℤ (getD values (block * 64 + zigzag v u) (pos 0) *ℤ pos (getD quantisers (zigzag v u) 0))))
+    +ℤ pos (2 ^ 27)) (2 ^ 28)
     +ℤ pos (2 ^ (7 + refinement))
 
--- "The sample at row y, column x"; "a block's samples stand row by row"
+-- T8: "The sample at row y, column x"; "a block's samples stand row by row"
 abbrev pub SamplesAre : Type 0
 SamplesAre =
     (refinement blocks : ℕ) (values : List ℤ) (quantisers : List ℕ) (room : ℕ) (ys : List ℤ) → Sampled refinement blocks values quantisers room ys
     → (block y x : ℕ) → block < blocks → y < 8 → x < 8 → getD ys (block * 64 + (y * 8 + x)) (pos 0) ≡ sampleAt refinement values quantisers block y x
 
--- the five steps for each pixel; "component planes follow one another"
+-- M4: the five steps for each pixel; "component planes follow one another"
 abbrev pub ResultsAre : Type 0
 ResultsAre =
     (s : Setting) (pixels : ℕ) (base residual : List ℤ) (table : List ℕ) (room : ℕ) (ys : List ℕ) → Merged s pixels base residual table room ys

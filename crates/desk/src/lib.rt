@@ -44,7 +44,8 @@ pub fn asked(
     most: usize,
     bytes: &mut [u8],
 ) -> Reply
-    ensures { λ r. ⌜ Replies (typeOf (now («type_word» .entry))) (instanceOf (now («instance_word» .entry))) (now (file .entry)) most (now (bytes .entry)) (now (bytes .exit)) r ⌝ }
+    ensures { λ r. ⌜ Replies (typeOf (now («type_word» .entry))) (instanceOf (now («instance_word» .entry))) (now (file .entry)) most
+        (now (bytes .entry)) (now (bytes .exit)) r ⌝ }
 {
     let kind = asking::type_of(type_word);
     let instance = asking::instance_of(instance_word);

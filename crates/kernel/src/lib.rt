@@ -1,4 +1,4 @@
-// A block's samples from its 64 products (01, "Inverse transform"): the kernel, the double sum, the rounding.
+// A block's samples from its 64 products (docs/RULES.md, T7 to T9): the kernel, the double sum, the rounding.
 ghost use mathlib.Core.Path.{_≡_};
 ghost use mathlib.Core.List.{_++_};
 ghost use Prim.Native.Nat.{_+_, _^_, _<_, _≤_};
@@ -153,7 +153,8 @@ fn sample(table: &[i64], s: &[i64], centre: i64, x: usize, y: usize) -> i32
 fn write_samples(table: &[i64], s: &[i64], centre: i64, destination: &mut [i32], at: usize)
     requires { ⌜ (now table ≡ kernelTable) × Products (now s) ⌝ }
     requires { ⌜ (natAbs centre ≤ 2048) × (at + 64 ≤ length (now destination)) ⌝ }
-    ensures { λ r. ⌜ now (destination .exit) ≡ take at (now (destination .entry)) ++ blockSamples (now (s .entry)) centre ++ drop (at + 64) (now (destination .entry)) ⌝ }
+    ensures { λ r. ⌜ now (destination .exit) ≡ take at (now (destination .entry)) ++ blockSamples (now (s .entry)) centre
+        ++ drop (at + 64) (now (destination .entry)) ⌝ }
 {
     let mut p = 0;
     while p < 64 {
@@ -167,7 +168,8 @@ fn write_samples(table: &[i64], s: &[i64], centre: i64, destination: &mut [i32],
 pub fn write_block(s: &[i64], centre: i64, destination: &mut [i32], at: usize)
     requires { ⌜ Products (now s) ⌝ }
     requires { ⌜ (natAbs centre ≤ 2048) × (at + 64 ≤ length (now destination)) ⌝ }
-    ensures { λ r. ⌜ now (destination .exit) ≡ take at (now (destination .entry)) ++ blockSamples (now (s .entry)) centre ++ drop (at + 64) (now (destination .entry)) ⌝ }
+    ensures { λ r. ⌜ now (destination .exit) ≡ take at (now (destination .entry)) ++ blockSamples (now (s .entry)) centre
+        ++ drop (at + 64) (now (destination .entry)) ⌝ }
 {
     let table = KERNEL;
     write_samples(&table, s, centre, destination, at);

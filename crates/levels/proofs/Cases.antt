@@ -1,4 +1,4 @@
--- The ranges of 01 at both sides of each edge, and which index is DC, worked out by hand. Assumes nothing.
+-- The ranges (L3, L4) at both sides of each edge, and which index is DC, worked out by hand. Assumes nothing.
 use mathlib.Core.Path.{_≡_, refl}
 use mathlib.Core.Bool.{Bool, true, false}
 use mathlib.Core.List.{List, [], _∷_, _++_, map}

@@ -1,4 +1,4 @@
-// The listing of a file's packets as text (01, "The listing program").
+// The listing of a file's packets as text (docs/RULES.md, P13 to P19).
 use answers::Answer;
 use answers::Outcome;
 use box_rules::Step;

@@ -1,4 +1,4 @@
-// The merge to 9 to 16 bits (01, "Merge"): a picture of one or three components, and the public call.
+// The merge to 9 to 16 bits (docs/RULES.md, M1 to M18): a picture of one or three components, and the public call.
 ghost use mathlib.Core.Path.{_≡_};
 ghost use mathlib.Core.List.{_++_};
 ghost use Prim.Native.Nat.{_*_, _<_, _≤_};
@@ -74,7 +74,8 @@ fn fill_one(
 )
     requires { ⌜ Lending s pixels (now base) (now residual) (now table) ⌝ }
     requires { ⌜ (s .components ≡ 1) × (samples s pixels ≤ length (now destination)) ⌝ }
-    ensures { λ r. ⌜ now (destination .exit) ≡ mergedPicture s pixels (now (base .entry)) (now (residual .entry)) (now (table .entry)) ++ drop (samples s pixels) (now (destination .entry)) ⌝ }
+    ensures { λ r. ⌜ now (destination .exit) ≡ mergedPicture s pixels (now (base .entry)) (now (residual .entry)) (now (table .entry))
+        ++ drop (samples s pixels) (now (destination .entry)) ⌝ }
 {
     let mut p = 0;
     while p < pixels {
@@ -95,7 +96,8 @@ fn fill_three(
 )
     requires { ⌜ Lending s pixels (now base) (now residual) (now table) ⌝ }
     requires { ⌜ (s .components ≡ 3) × (samples s pixels ≤ length (now destination)) ⌝ }
-    ensures { λ r. ⌜ now (destination .exit) ≡ mergedPicture s pixels (now (base .entry)) (now (residual .entry)) (now (table .entry)) ++ drop (samples s pixels) (now (destination .entry)) ⌝ }
+    ensures { λ r. ⌜ now (destination .exit) ≡ mergedPicture s pixels (now (base .entry)) (now (residual .entry)) (now (table .entry))
+        ++ drop (samples s pixels) (now (destination .entry)) ⌝ }
 {
     let mut p = 0;
     while p < pixels {
@@ -120,7 +122,8 @@ fn fill_by(
 )
     requires { ⌜ Lending s pixels (now base) (now residual) (now table) ⌝ }
     requires { ⌜ samples s pixels ≤ length (now destination) ⌝ }
-    ensures { λ r. ⌜ now (destination .exit) ≡ mergedPicture s pixels (now (base .entry)) (now (residual .entry)) (now (table .entry)) ++ drop (samples s pixels) (now (destination .entry)) ⌝ }
+    ensures { λ r. ⌜ now (destination .exit) ≡ mergedPicture s pixels (now (base .entry)) (now (residual .entry)) (now (table .entry))
+        ++ drop (samples s pixels) (now (destination .entry)) ⌝ }
 {
     if s.components == 1 {
         fill_one(s, pixels, base, residual, table, destination);
@@ -140,7 +143,8 @@ fn fill_srgb(
 )
     requires { ⌜ Passed s pixels (now base) (now residual) (now table) × (s .curve ≡ Srgb) ⌝ }
     requires { ⌜ samples s pixels ≤ length (now destination) ⌝ }
-    ensures { λ r. ⌜ now (destination .exit) ≡ mergedPicture s pixels (now (base .entry)) (now (residual .entry)) (now (table .entry)) ++ drop (samples s pixels) (now (destination .entry)) ⌝ }
+    ensures { λ r. ⌜ now (destination .exit) ≡ mergedPicture s pixels (now (base .entry)) (now (residual .entry)) (now (table .entry))
+        ++ drop (samples s pixels) (now (destination .entry)) ⌝ }
 {
     let tones = curves::srgb_table();
     fill_by(s, pixels, base, residual, &tones, destination);
@@ -157,7 +161,8 @@ fn fill_straight(
 )
     requires { ⌜ Passed s pixels (now base) (now residual) (now table) × (s .curve ≡ Straight) ⌝ }
     requires { ⌜ samples s pixels ≤ length (now destination) ⌝ }
-    ensures { λ r. ⌜ now (destination .exit) ≡ mergedPicture s pixels (now (base .entry)) (now (residual .entry)) (now (table .entry)) ++ drop (samples s pixels) (now (destination .entry)) ⌝ }
+    ensures { λ r. ⌜ now (destination .exit) ≡ mergedPicture s pixels (now (base .entry)) (now (residual .entry)) (now (table .entry))
+        ++ drop (samples s pixels) (now (destination .entry)) ⌝ }
 {
     if pixels < rounding::power(9 + s.rh) as usize {
         fill_by(s, pixels, base, residual, table, destination);
@@ -186,7 +191,8 @@ fn fill(
 )
     requires { ⌜ Passed s pixels (now base) (now residual) (now table) ⌝ }
     requires { ⌜ samples s pixels ≤ length (now destination) ⌝ }
-    ensures { λ r. ⌜ now (destination .exit) ≡ mergedPicture s pixels (now (base .entry)) (now (residual .entry)) (now (table .entry)) ++ drop (samples s pixels) (now (destination .entry)) ⌝ }
+    ensures { λ r. ⌜ now (destination .exit) ≡ mergedPicture s pixels (now (base .entry)) (now (residual .entry)) (now (table .entry))
+        ++ drop (samples s pixels) (now (destination .entry)) ⌝ }
 {
     let curve = s.curve;
     match curve {
@@ -246,7 +252,8 @@ fn try_merge(
     table: &[u16],
     destination: &mut [u16],
 ) -> answers::Outcome
-    ensures { λ r. ⌜ Tried 0 (merge s pixels (now (base .entry)) (now (residual .entry)) (now (table .entry)) (length (now (destination .entry)))) (now (destination .entry)) (now (destination .exit)) r ⌝ }
+    ensures { λ r. ⌜ Tried 0 (merge s pixels (now (base .entry)) (now (residual .entry)) (now (table .entry)) (length (now (destination .entry))))
+        (now (destination .entry)) (now (destination .exit)) r ⌝ }
 {
     let o = tested(s, pixels, base, residual, table, destination.len());
     if let answers::Outcome::Refused(_) = o {
@@ -265,7 +272,8 @@ pub fn merge(
     table: &[u16],
     destination: &mut [u16],
 ) -> answers::Answer
-    ensures { λ r. ⌜ Meets 0 (merge s pixels (now (base .entry)) (now (residual .entry)) (now (table .entry)) (length (now (destination .entry)))) (now (destination .entry)) (now (destination .exit)) r ⌝ }
+    ensures { λ r. ⌜ Meets 0 (merge s pixels (now (base .entry)) (now (residual .entry)) (now (table .entry)) (length (now (destination .entry))))
+        (now (destination .entry)) (now (destination .exit)) r ⌝ }
 {
     let tried = try_merge(s, pixels, base, residual, table, destination);
     match tried {

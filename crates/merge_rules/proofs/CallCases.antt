@@ -1,4 +1,4 @@
--- What the numbers of the merge's call name, and its refusals, worked out by hand from what include/auhowipi.h says and from 01. Assumes nothing.
+-- What the numbers of the merge's call name, and its refusals, worked out by hand from what include/auhowipi.h says and from C5 to C7. Assumes nothing.
 use mathlib.Core.Path.{_≡_, refl}
 use mathlib.Core.Bool.{Bool, true, false}
 use mathlib.Core.List.{List, [], _∷_, map}
@@ -18,7 +18,7 @@ use Rattle.merge_rules.specs.Settings.{inRanges, plain, srgbAllowed, res
 use Rattle.merge_rules.specs.Picture.{planes, mergedPicture, merge, mergeTests}
 use Rattle.merge_rules.specs.Call.{colourOf, curveOf, matrixOf, residualOf, known, matrixCount, weightsOf, settingOf, settingNumber, mergeCall}
 
--- "0 identity, 1 the YCbCr transform", "0 straight, 1 lent table, 2 inverse sRGB", "0 none, 1 the nine weights", "0 none, 1 lent"
+-- C5: 0 identity, 1 the transform; 0 straight, 1 the lent table, 2 inverse sRGB; 0 absent, 1 present
 pub colours : map colourOf (0 ∷ 1 ∷ []) ≡ Identity ∷ Transform ∷ []
 unfolding colourOf
 colours = refl
@@ -35,13 +35,13 @@ pub residuals : map residualOf (0 ∷ 1 ∷ []) ≡ Absent ∷ Present ∷ []
 unfolding residualOf
 residuals = refl
 
--- "an unknown one is 20": each number at its last name, and then one above, the others named
+-- C6, an unknown one is 20: each number at its last name, and then one above, the others named
 pub names : map (λ (p : ℕ × ℕ × ℕ × ℕ × ℕ). known (p .0) (p .1) (p .2) (p .3) (p .4)) ((1, 2, 1, 1, 1) ∷ (2, 0, 0, 0, 0) ∷ (0, 3, 0, 0, 0) ∷ (0, 0, 2, 0, 0) ∷ (0, 0, 0, 2, 0) ∷ (0, 0, 0, 0, 2) ∷ [])
     ≡ true ∷ false ∷ false ∷ false ∷ false ∷ false ∷ []
 unfolding known every
 names = refl
 
--- "the matrix has 9 numbers when on and is empty otherwise"
+-- C7: the matrix has 9 numbers when on and is empty otherwise
 pub counts : map matrixCount (None ∷ On ∷ []) ≡ 0 ∷ 9 ∷ []
 unfolding matrixCount
 counts = refl

@@ -1,4 +1,4 @@
--- The curves at chosen numbers, worked out by hand from 01 and computed on the definitions. Assumes nothing.
+-- The curves at chosen numbers, worked out by hand from the rules and computed on the definitions. Assumes nothing.
 use mathlib.Core.Path.{_≡_, refl}
 use mathlib.Core.Bool.{true, false}
 use mathlib.Core.List.{[], _∷_, map}

@@ -1,4 +1,4 @@
--- The merge of a picture: its layout, and every pair of refusals that follow one another as one input with both faults, worked out by hand from 01. Assumes nothing.
+-- The merge of a picture: its layout, and every pair of refusals that follow one another as one input with both faults, worked out by hand from the rules. Assumes nothing.
 use mathlib.Core.Path.{_≡_, refl}
 use mathlib.Core.List.{List, [], _∷_, map}
 use Prim.Native.Nat.{ℕ, _+_}

@@ -1,4 +1,4 @@
--- Cases f, g and h of the whiteboard, and each step at chosen numbers, worked out by hand from 01 and computed on the definitions. Assumes nothing.
+-- Cases f, g and h of the whiteboard, and each step at chosen numbers, worked out by hand from the rules and computed on the definitions. Assumes nothing.
 use mathlib.Core.Path.{_≡_, refl}
 use mathlib.Core.List.{[], _∷_, map}
 use Prim.Native.Nat.{ℕ}

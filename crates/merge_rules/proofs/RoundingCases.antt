@@ -1,4 +1,4 @@
--- Rounding, clipping and weighing at their edges, worked out by hand from 01 and computed on the definitions. Assumes nothing.
+-- Rounding, clipping and weighing at their edges, worked out by hand from the rules and computed on the definitions. Assumes nothing.
 use mathlib.Core.Path.{_≡_, refl}
 use mathlib.Core.List.{[], _∷_, map}
 use lib.IntN.{pos, negsuc}

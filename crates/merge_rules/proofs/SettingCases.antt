@@ -1,4 +1,4 @@
--- What may be set and must be lent, on both sides of each edge, worked out by hand from 01 and computed on the definitions. Assumes nothing.
+-- What may be set and must be lent, on both sides of each edge, worked out by hand from the rules and computed on the definitions. Assumes nothing.
 use mathlib.Core.Path.{_≡_, refl}
 use mathlib.Core.Bool.{true, false}
 use mathlib.Core.List.{List, [], _∷_, map}

@@ -1,4 +1,4 @@
--- The sRGB table follows 01's rule at each of its 256 entries, and the rule leaves no choice. Assumes nothing.
+-- The sRGB table follows M14 at each of its 256 entries, and the rule leaves no choice. Assumes nothing.
 use mathlib.Core.Path.{_≡_, refl, sym, _∙_}
 use mathlib.Core.Logic.{⊎-elim}
 use mathlib.Core.Bool.{Bool, true, false, cond, _&&_}

@@ -1,25 +1,25 @@
 // The rules of the merge, and the setting that they speak of; no function.
 
-// The base curve of step 2.
+// M13: the base curve of step 2.
 pub enum Curve {
     Straight,
     Table,
     Srgb,
 }
 
-// Identity, or the YCbCr transform of step 1.
+// M9: identity, or the YCbCr transform of step 1.
 pub enum Colour {
     Identity,
     Transform,
 }
 
-// Whether step 3 has its matrix.
+// M15: whether step 3 has its matrix.
 pub enum Matrix {
     None,
     On,
 }
 
-// Whether a residual is lent.
+// M16: whether a residual is lent.
 pub enum Residual {
     Absent,
     Present,

@@ -1,4 +1,4 @@
-// The sequence numbers of the packets of one type and instance: which is the smallest that stands twice (01, refusal 6).
+// The sequence numbers of the packets of one type and instance: which is the smallest that stands twice (6, docs/RULES.md, P7).
 // The search goes by windows of numbers, from the smallest on, each with as many packets at most as a small array holds.
 use laws::Found;
 use packets::Next;

@@ -1,4 +1,4 @@
-// The walk over a file's segments, and one packet (01, "Packets and boxes").
+// The walk over a file's segments, and one packet (docs/RULES.md, W1 to W9, P1 to P4).
 use answers::Outcome;
 use answers::Refusal;
 use box_rules::Head;

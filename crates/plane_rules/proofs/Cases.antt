@@ -1,4 +1,4 @@
--- The whiteboard's readings c and d (01), and one example each of 15 and 19, by computation. Assumes nothing.
+-- The whiteboard's readings c and d (S3, S4), and one example each of 15 and 19, by computation. Assumes nothing.
 use mathlib.Core.Path.{_≡_, refl}
 use mathlib.Core.List.{List, [], _∷_, map}
 use Prim.Native.Nat.{ℕ}
@@ -37,8 +37,8 @@ pub record Reading : Type 0 where
 abbrev pub reading : Table → List ℤ → List ℕ → Verdict ℤ → Reading
 reading codes values bytes verdict = record { codes = codes; values = values; bytes = bytes; verdict = verdict }
 
--- "T, one zero block, data 67: AC 1 becomes 1. Position 1 at 3, data 3F: 7. Same, data 43: 6, then -1 at position 2. Zero block, data 43: 18, place 1.
--- One block, no data: 12, place 0." And "code not used in refinement: block": the one code has the value 02
+-- "T, one zero block, data 67: AC 1 becomes 1." "Position 1 at 3, data 3F: 7." "Same, data 43: 6, then -1 at position 2." "Zero block, data 43: 18, place 1."
+-- "One block, no data: 12, place 0." And "code not used in refinement", "block": the one code has the value 02
 abbrev pub readings : List Reading
 readings =
     reading T (block (pos 0)) (0x67 ∷ []) (given (block (pos 1)))
@@ -63,7 +63,7 @@ pub case-d-write : writeDc 1 8 (replicate 8 (pos 1)) 2 ≡ given (0xff ∷ 0 ∷
 unfolding every firstFail orHere inLevel isDc inside firstOutside stuffed padded packed dcBit writeDc
 case-d-write = refl
 
--- "writer's table lacks a code: the code's value": a new value at position 1 needs 01
+-- "writer's table lacks a code", "the code's value": a new value at position 1 needs 01
 pub lacking-code : writeAc 1 1 (table (0 ∷ 2 ∷ replicate 14 0) (0x00 ∷ 0xf0 ∷ [])) (block (pos 1)) 8 ≡ refused (refusal 19 1)
 unfolding every firstFail orHere inLevel isDc inside firstOutside digits codeCount kraft holds distinct goodTable placeOf cut kindOf oneMore ahead quiet plan order emit writeBlock writeBlocks tokens lacking writeAc
 lacking-code = refl

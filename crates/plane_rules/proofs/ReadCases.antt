@@ -1,4 +1,4 @@
--- Readings of DC and AC planes worked out by hand from 01: both sides of each edge, each two neighbours in the order of refusals as one input, places told apart. Assumes nothing.
+-- Readings of DC and AC planes worked out by hand from the rules: both sides of each edge, each two neighbours in the order of refusals as one input, places told apart. Assumes nothing.
 use mathlib.Core.Path.{_≡_, refl}
 use mathlib.Core.List.{List, [], _∷_, _++_, map}
 use Prim.Native.Nat.{ℕ}
@@ -17,7 +17,7 @@ use Rattle.plane_rules.specs.Dc.{newDc, dcBlocks, readDc}
 use Rattle.plane_rules.specs.AcRead.{takeNumber, endRun, meaning, taskAt, position, blockEnd, acBlock, cut, acBlocks, readAc}
 use Rattle.plane_rules.proofs.Cases.{T}
 
--- what a call comes to, and what 01 says of it
+-- what a call comes to, and what the rules say of it
 pub record Case (A : Type 0) : Type 0 where
   pub comes : Verdict A
   pub says : Verdict A

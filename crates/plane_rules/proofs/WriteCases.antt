@@ -1,4 +1,4 @@
--- DC and AC planes written, worked out by hand from 01: both sides of each edge, each two neighbours in the order of refusals as one input, places told apart. Assumes nothing.
+-- DC and AC planes written, worked out by hand from the rules: both sides of each edge, each two neighbours in the order of refusals as one input, places told apart. Assumes nothing.
 use mathlib.Core.Path.{_≡_, refl}
 use mathlib.Core.List.{List, [], _∷_, _++_, map}
 use Prim.Native.Nat.{ℕ}

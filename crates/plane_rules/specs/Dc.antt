@@ -1,4 +1,4 @@
--- DC planes, read and written (01: "A DC plane is one bit per block: new DC = 2c + bit. Its calls need no table.").
+-- R2 to R4, E2 and E3: DC planes, read and written. "A DC plane is one bit per block: new DC = 2c + bit. Its calls need no table."
 use mathlib.Core.Bool.{Bool, not}
 use mathlib.Core.List.{List, [], _∷_, map}
 use Prim.Native.Nat.{ℕ, suc, _-_, _/_}
@@ -14,16 +14,16 @@ use Rattle.bit_rules.specs.Source.{Source, start, takeBit}
 use Rattle.bit_rules.specs.Pack.{bytesOf}
 use Rattle.plane_rules.specs.Plane.{readable, writable, Plane, read, onto, inBlock, closed}
 
--- "new DC = 2c + bit"
+-- R4: "new DC = 2c + bit"
 unfoldable pub newDc : ℤ → Bool → ℤ
 newDc value b = pos 2 *ℤ value +ℤ pos (bin b)
 
--- the block with this number and those after it
+-- R3, R4: the block with this number and those after it
 unfoldable pub dcBlocks : ℕ → List ℤ → Source → Plane
 dcBlocks block [] s = read [] s
 dcBlocks block (c ∷ values) s = inBlock block (λ b t. onto (newDc c b ∷ []) (dcBlocks (suc block) values t)) (takeBit s)
 
--- reading: 20, 21, 11, 9, then 12, 13 and 18 as the bits are met
+-- N7, L2, R2: reading: 20, 21, 11, 9, then 12, 13 and 18 as the bits are met
 unfoldable pub readDc : ℕ → ℕ → List ℤ → List ℕ → ℕ → Verdict ℤ
 readDc plane blocks values bytes room =
     need (every (readable plane blocks)) 20 0
@@ -32,20 +32,21 @@ readDc plane blocks values bytes room =
     (need (leb blocks room) 9 blocks
     (closed (dcBlocks 0 values (start bytes))))))
 
--- "against their halves (DC downward)": negsuc n is -(n+1)
+-- E3: "against their halves (DC downward, ..": negsuc n is -(n+1)
 unfoldable pub dcHalf : ℤ → ℤ
 dcHalf (pos n) = pos (n / 2)
 dcHalf (negsuc n) = negsuc (n / 2)
 
--- what a value is more than twice its half
+-- E3: what a value is more than twice its half
 unfoldable pub dcBit : ℤ → Bool
 dcBit (pos n) = odd n
 dcBit (negsuc n) = not (odd n)
 
+-- E3, E10: the bytes of a plane: a bit a block
 abbrev pub dcBytes : List ℤ → List ℕ
 dcBytes values = bytesOf (map dcBit values)
 
--- writing: 20, 21, 11, 9
+-- N8, E2: writing: 20, 21, 11, 9
 unfoldable pub writeDc : ℕ → ℕ → List ℤ → ℕ → Verdict ℕ
 writeDc plane blocks values room =
     need (every (writable plane blocks)) 20 0

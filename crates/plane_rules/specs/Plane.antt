@@ -1,4 +1,4 @@
--- What DC and AC planes share (01, "Refinement planes"): the counts they take, blocks one after another, what must follow the last.
+-- What DC and AC planes share: the counts they take (R1, E1), blocks one after another (R3), what must follow the last (R15).
 use mathlib.Core.Bool.{Bool}
 use mathlib.Core.List.{List, [], _∷_, _++_}
 use Prim.Native.Nat.{ℕ}
@@ -8,30 +8,30 @@ use Rattle.answers.specs.Verdict.{Verdict, given, refused, refusal, need}
 use Rattle.answers.specs.declared.Refusal.{Refusal}
 use Rattle.bit_rules.specs.Source.{Source, Out, got, stopped, onlyPadding}
 
--- "Plane j takes level j-1 values to level j; j is 1 to 4"; "0 to 1,024 blocks a call"
+-- N14, R1: "Plane j takes level j-1 values to level j; j is 1 to 4"; "0 to 1,024 blocks a call"
 abbrev pub readable : ℕ → ℕ → List Bool
 readable plane blocks = leb 1 plane ∷ leb plane 4 ∷ leb blocks 1024 ∷ []
 
--- "The writer takes level j values, j 1 to 4"
+-- N14, E1: "The writer takes level j values, j 1 to 4"
 abbrev pub writable : ℕ → ℕ → List Bool
 writable plane blocks = leb 1 plane ∷ leb plane 4 ∷ leb blocks 1024 ∷ []
 
--- what reading the blocks comes to: the values and the data left, or a refusal
+-- R3: what reading the blocks comes to: the values and the data left, or a refusal
 pub data Plane : Type 0 where
   read : List ℤ → Source → Plane
   broken : Refusal → Plane
 
--- values in front of those that follow
+-- R3: values in front of those that follow
 unfoldable pub onto : List ℤ → Plane → Plane
 onto values (read more s) = read (values ++ more) s
 onto values (broken r) = broken r
 
--- one block was read, and `next` reads on; or it was not, and its number is the place
+-- R3: one block was read, and `next` reads on; or it was not, and its number is the place
 abbrev pub inBlock : {A : Type 0} → ℕ → (A → Source → Plane) → Out A → Plane
 inBlock block next (got a s) = next a s
 inBlock block next (stopped x) = broken (refusal (x .number) block)
 
--- "After the last block the unread bits of the byte must be ones and no byte may follow": else 18, "bytes read"
+-- B6, R15: "After the last block the unread bits of the byte must be ones and no byte may follow": else 18, "bytes read"
 unfoldable pub closed : Plane → Verdict ℤ
 closed (read values s) = need (onlyPadding s) 18 (s .seen) (given values)
 closed (broken r) = refused r

@@ -15,7 +15,7 @@ use Rattle.planes.specs.declared.Blocks.the-variants.{Read, Broken}
 abbrev pub Small : List ℤ → Type 0
 Small values = (k : ℕ) → natAbs (getD values k (pos 0)) ≤ 32768
 
--- these values were read, or a refusal is given
+-- N15: these values were read, or a refusal is given
 unfoldable pub planeOf : List ℕ → List ℤ → Blocks → Plane
 planeOf bytes values (Read c) = read values (sourceOf bytes c)
 planeOf bytes values (Broken r) = broken r

@@ -1,4 +1,4 @@
-// DC planes, read and written (01: "A DC plane is one bit per block").
+// DC planes, read and written (docs/RULES.md, R1 to R4, E1 to E3).
 ghost use mathlib.Core.Path.{_≡_};
 ghost use mathlib.Core.List.{map};
 ghost use Prim.Native.Nat.{_≤_};

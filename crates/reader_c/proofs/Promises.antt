@@ -1,4 +1,4 @@
--- What each public call promises, with its parameters counted off by their places, and what follows for one input of 01's: a promise that says nothing gives neither. Assumes nothing.
+-- What each public call promises, with its parameters counted off by their places, and what follows for one input of the whiteboard's: a promise that says nothing gives neither. Assumes nothing.
 use mathlib.Core.Path.{_≡_, ap, _∙_}
 use mathlib.Core.List.{List, [], _∷_, _++_}
 use Prim.Native.Nat.{ℕ}

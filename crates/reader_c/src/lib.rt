@@ -1,4 +1,4 @@
-// The public calls for C and Rust: thin, with the same promises. A slice passes as a pointer and then a length in elements;
+// The public calls for C and Rust (docs/RULES.md, C1 to C7): thin, with the same promises. A slice passes as a pointer and then a length in elements;
 // the number is returned and the place written through the last parameter.
 ghost use mathlib.Core.Path.{_≡_};
 ghost use lib.IntN.{pos};
@@ -13,7 +13,7 @@ ghost use Rattle.box_rules.specs.Text.{listPackets};
 ghost use Rattle.merge_rules.specs.Call.{colourOf, curveOf, matrixOf, residualOf, known, matrixCount, weightsOf, settingOf, settingNumber, mergeCall};
 ghost use Rattle.transform_rules.specs.Call.{inverseTransform};
 
-// One box, assembled from its packets.
+// C1, C3, C4: one box, assembled from its packets; the type's first byte is the highest of its number.
 #[no_mangle]
 pub extern "C" fn xt_box_bytes(
     file: &[u8],
@@ -22,24 +22,26 @@ pub extern "C" fn xt_box_bytes(
     destination: &mut [u8],
     place: &mut u64,
 ) -> u32
-    ensures { λ r. ⌜ Meets 0 (boxBytes (now (file .entry)) kind instance (length (now (destination .entry)))) (now (destination .entry)) (now (destination .exit)) (record { number = r; place = now (place .exit) }) ⌝ }
+    ensures { λ r. ⌜ Meets 0 (boxBytes (now (file .entry)) kind instance (length (now (destination .entry))))
+        (now (destination .entry)) (now (destination .exit)) (record { number = r; place = now (place .exit) }) ⌝ }
 {
     let a = boxes::box_bytes(file, kind, instance, destination);
     *place = a.place as u64;
     a.number
 }
 
-// The listing of a file's packets as text.
+// C1, C4: the listing of a file's packets as text.
 #[no_mangle]
 pub extern "C" fn xt_list_packets(file: &[u8], text: &mut [u8], place: &mut u64) -> u32
-    ensures { λ r. ⌜ Meets 0 (listPackets (now (file .entry)) (length (now (text .entry)))) (now (text .entry)) (now (text .exit)) (record { number = r; place = now (place .exit) }) ⌝ }
+    ensures { λ r. ⌜ Meets 0 (listPackets (now (file .entry)) (length (now (text .entry))))
+        (now (text .entry)) (now (text .exit)) (record { number = r; place = now (place .exit) }) ⌝ }
 {
     let a = listing_text::list_packets(file, text);
     *place = a.place as u64;
     a.number
 }
 
-// A DC plane read: level plane-1 values to level plane.
+// C1, C4: a DC plane read, level plane-1 values to level plane.
 #[no_mangle]
 pub extern "C" fn xt_read_dc_plane(
     plane: u32,
@@ -49,14 +51,15 @@ pub extern "C" fn xt_read_dc_plane(
     destination: &mut [i32],
     place: &mut u64,
 ) -> u32
-    ensures { λ r. ⌜ Meets (pos 0) (readDc plane blocks (now (values .entry)) (now («data» .entry)) (length (now (destination .entry)))) (now (destination .entry)) (now (destination .exit)) (record { number = r; place = now (place .exit) }) ⌝ }
+    ensures { λ r. ⌜ Meets (pos 0) (readDc plane blocks (now (values .entry)) (now («data» .entry)) (length (now (destination .entry))))
+        (now (destination .entry)) (now (destination .exit)) (record { number = r; place = now (place .exit) }) ⌝ }
 {
     let a = planes::read_dc(plane, blocks, data, values, destination);
     *place = a.place as u64;
     a.number
 }
 
-// A DC plane written.
+// C1, C4: a DC plane written.
 #[no_mangle]
 pub extern "C" fn xt_write_dc_plane(
     plane: u32,
@@ -65,14 +68,15 @@ pub extern "C" fn xt_write_dc_plane(
     destination: &mut [u8],
     place: &mut u64,
 ) -> u32
-    ensures { λ r. ⌜ Meets 0 (writeDc plane blocks (now (values .entry)) (length (now (destination .entry)))) (now (destination .entry)) (now (destination .exit)) (record { number = r; place = now (place .exit) }) ⌝ }
+    ensures { λ r. ⌜ Meets 0 (writeDc plane blocks (now (values .entry)) (length (now (destination .entry))))
+        (now (destination .entry)) (now (destination .exit)) (record { number = r; place = now (place .exit) }) ⌝ }
 {
     let a = planes::write_dc(plane, blocks, values, destination);
     *place = a.place as u64;
     a.number
 }
 
-// Dequantising and the inverse transform.
+// C1, C4: dequantising and the inverse transform.
 #[no_mangle]
 pub extern "C" fn xt_inverse_transform(
     refinement: u32,
@@ -82,14 +86,15 @@ pub extern "C" fn xt_inverse_transform(
     destination: &mut [i32],
     place: &mut u64,
 ) -> u32
-    ensures { λ r. ⌜ Meets (pos 0) (inverseTransform refinement blocks (now (values .entry)) (now (quantisers .entry)) (length (now (destination .entry)))) (now (destination .entry)) (now (destination .exit)) (record { number = r; place = now (place .exit) }) ⌝ }
+    ensures { λ r. ⌜ Meets (pos 0) (inverseTransform refinement blocks (now (values .entry)) (now (quantisers .entry)) (length (now (destination .entry))))
+        (now (destination .entry)) (now (destination .exit)) (record { number = r; place = now (place .exit) }) ⌝ }
 {
     let a = transform::inverse_transform(refinement, blocks, values, quantisers, destination);
     *place = a.place as u64;
     a.number
 }
 
-// An AC plane read.
+// C1, C4: an AC plane read.
 #[no_mangle]
 pub extern "C" fn xt_read_ac_plane(
     plane: u32,
@@ -108,7 +113,7 @@ pub extern "C" fn xt_read_ac_plane(
     a.number
 }
 
-// An AC plane written.
+// C1, C4: an AC plane written.
 #[no_mangle]
 pub extern "C" fn xt_write_ac_plane(
     plane: u32,
@@ -119,14 +124,15 @@ pub extern "C" fn xt_write_ac_plane(
     destination: &mut [u8],
     place: &mut u64,
 ) -> u32
-    ensures { λ r. ⌜ Meets 0 (writeAc plane blocks (table (now (counts .entry)) (now (codes .entry))) (now (values .entry)) (length (now (destination .entry)))) (now (destination .entry)) (now (destination .exit)) (record { number = r; place = now (place .exit) }) ⌝ }
+    ensures { λ r. ⌜ Meets 0 (writeAc plane blocks (table (now (counts .entry)) (now (codes .entry))) (now (values .entry)) (length (now (destination .entry))))
+        (now (destination .entry)) (now (destination .exit)) (record { number = r; place = now (place .exit) }) ⌝ }
 {
     let a = ac_writer::write_ac(plane, blocks, counts, codes, values, destination);
     *place = a.place as u64;
     a.number
 }
 
-// 0 identity, 1 the transform.
+// C5: 0 identity, 1 the transform.
 fn colour(n: u32) -> merge_rules::Colour
     ensures { λ r. ⌜ r ≡ colourOf n ⌝ }
 {
@@ -136,7 +142,7 @@ fn colour(n: u32) -> merge_rules::Colour
     }
 }
 
-// 0 straight, 1 the lent table, 2 inverse sRGB.
+// C5: 0 straight, 1 the lent table, 2 inverse sRGB.
 fn curve_of(n: u32) -> merge_rules::Curve
     ensures { λ r. ⌜ r ≡ curveOf n ⌝ }
 {
@@ -147,6 +153,7 @@ fn curve_of(n: u32) -> merge_rules::Curve
     }
 }
 
+// C5: 0 absent, 1 present.
 fn matrix_of(n: u32) -> merge_rules::Matrix
     ensures { λ r. ⌜ r ≡ matrixOf n ⌝ }
 {
@@ -156,6 +163,7 @@ fn matrix_of(n: u32) -> merge_rules::Matrix
     }
 }
 
+// C5: 0 absent, 1 present.
 fn residual_of(n: u32) -> merge_rules::Residual
     ensures { λ r. ⌜ r ≡ residualOf n ⌝ }
 {
@@ -165,7 +173,7 @@ fn residual_of(n: u32) -> merge_rules::Residual
     }
 }
 
-// Whether each number names something.
+// C6: whether each number names something.
 fn known(base: u32, curve: u32, matrix: u32, residual: u32, transform: u32) -> bool
     ensures { λ r. ⌜ r ≡ known base curve matrix residual transform ⌝ }
 {
@@ -184,7 +192,7 @@ fn known(base: u32, curve: u32, matrix: u32, residual: u32, transform: u32) -> b
     transform < 2
 }
 
-// How many numbers a matrix has.
+// C7: how many numbers a matrix has.
 fn matrix_count(m: merge_rules::Matrix) -> usize
     ensures { λ r. ⌜ r ≡ matrixCount m ⌝ }
 {
@@ -194,7 +202,7 @@ fn matrix_count(m: merge_rules::Matrix) -> usize
     }
 }
 
-// The matrix's numbers, or zeros where there are not nine.
+// C7: the matrix's numbers, or zeros where there are not nine.
 fn weights_of(matrix: &[i16]) -> [i16; 9]
     ensures { λ r. ⌜ r ≡ weightsOf (now (matrix .entry)) ⌝ }
 {
@@ -214,7 +222,7 @@ fn weights_of(matrix: &[i16]) -> [i16; 9]
     ]
 }
 
-// 20 or 21 by what only this call tests, or 0.
+// C6, C7: 20 or 21 by what only this call tests, or 0.
 fn setting_number(named: bool, s: merge_rules::Setting, pixels: usize, matrix: &[i16]) -> u32
     ensures { λ r. ⌜ r ≡ settingNumber named s pixels (now (matrix .entry)) ⌝ }
 {
@@ -248,7 +256,9 @@ fn merge_or_not(
     matrix: &[i16],
     destination: &mut [u16],
 ) -> answers::Answer
-    ensures { λ r. ⌜ Meets 0 (mergeCall named s pixels (now (base .entry)) (now (residual .entry)) (now (table .entry)) (now (matrix .entry)) (length (now (destination .entry)))) (now (destination .entry)) (now (destination .exit)) r ⌝ }
+    ensures { λ r. ⌜ Meets 0 (mergeCall named s pixels
+        (now (base .entry)) (now (residual .entry)) (now (table .entry)) (now (matrix .entry)) (length (now (destination .entry))))
+        (now (destination .entry)) (now (destination .exit)) r ⌝ }
 {
     let number = setting_number(named, s, pixels, matrix);
     if number != 0 {
@@ -258,7 +268,7 @@ fn merge_or_not(
     merge::merge(s, pixels, base, residual, table, destination)
 }
 
-// The merge to 9 to 16 bits.
+// C1, C4: the merge to 9 to 16 bits.
 #[no_mangle]
 pub extern "C" fn xt_merge(
     rb: u32,
@@ -278,7 +288,10 @@ pub extern "C" fn xt_merge(
     destination: &mut [u16],
     place: &mut u64,
 ) -> u32
-    ensures { λ r. ⌜ Meets 0 (mergeCall (known tint curve matrixed added retint) (settingOf rb rh rr components tint curve matrixed (now (matrix .entry)) added retint) pixels (now (base .entry)) (now (residual .entry)) (now (table .entry)) (now (matrix .entry)) (length (now (destination .entry)))) (now (destination .entry)) (now (destination .exit)) (record { number = r; place = now (place .exit) }) ⌝ }
+    ensures { λ r. ⌜ Meets 0 (mergeCall (known tint curve matrixed added retint)
+        (settingOf rb rh rr components tint curve matrixed (now (matrix .entry)) added retint) pixels
+        (now (base .entry)) (now (residual .entry)) (now (table .entry)) (now (matrix .entry)) (length (now (destination .entry))))
+        (now (destination .entry)) (now (destination .exit)) (record { number = r; place = now (place .exit) }) ⌝ }
 {
     let s = merge_rules::Setting {
         rb,

@@ -24,4 +24,6 @@ unfoldable pub moved : Bool → Run → ℕ → ℕ → Run
 moved same r at group = record { at = at; left = r .left; group = group; right = cond same (r .right) 0; all = cond same (r .all) 0 }
 
 unfoldable pub nextRun : List ℕ → Run → Finding → Run
-nextRun bytes r ran = moved (goesOn (counted r (ran .good) .left) (counted r (ran .good) .group) (numberAt bytes (ran .next))) (counted r (ran .good)) (ran .next) (numberAt bytes (ran .next))
+nextRun bytes r ran =
+    moved (goesOn (counted r (ran .good) .left) (counted r (ran .good) .group) (numberAt bytes (ran .next)))
+    (counted r (ran .good)) (ran .next) (numberAt bytes (ran .next))

@@ -1,4 +1,4 @@
-// Dequantising and the inverse transform of a picture's blocks (01, "Inverse transform").
+// Dequantising and the inverse transform of a picture's blocks (docs/RULES.md, T1 to T9).
 ghost use mathlib.Core.Path.{_≡_};
 ghost use mathlib.Core.List.{_++_};
 ghost use Prim.Native.Nat.{_+_, _*_, _<_, _≤_};
@@ -126,7 +126,9 @@ fn transform_block(
 )
     requires { ⌜ InRange (now values) (now quantisers) × (natAbs centre ≤ 2048) ⌝ }
     requires { ⌜ (block * 64 + 64 ≤ length (now values)) × (block * 64 + 64 ≤ length (now destination)) ⌝ }
-    ensures { λ r. ⌜ now (destination .exit) ≡ take (block * 64) (now (destination .entry)) ++ blockSamples (dequantised (now (values .entry)) (now (quantisers .entry)) block) centre ++ drop (block * 64 + 64) (now (destination .entry)) ⌝ }
+    ensures { λ r. ⌜ now (destination .exit) ≡ take (block * 64) (now (destination .entry))
+        ++ blockSamples (dequantised (now (values .entry)) (now (quantisers .entry)) block) centre
+        ++ drop (block * 64 + 64) (now (destination .entry)) ⌝ }
 {
     let order = ZIGZAG;
     let mut s = [0i64; 64];
@@ -145,7 +147,8 @@ fn transform_picture(
 )
     requires { ⌜ InRange (now values) (now quantisers) × (refinement ≤ 4) ⌝ }
     requires { ⌜ (length (now values) ≡ blocks * 64) × (blocks * 64 ≤ length (now destination)) ⌝ }
-    ensures { λ r. ⌜ now (destination .exit) ≡ picture refinement blocks (now (values .entry)) (now (quantisers .entry)) ++ drop (blocks * 64) (now (destination .entry)) ⌝ }
+    ensures { λ r. ⌜ now (destination .exit) ≡ picture refinement blocks (now (values .entry)) (now (quantisers .entry))
+        ++ drop (blocks * 64) (now (destination .entry)) ⌝ }
 {
     let c = centre(refinement);
     let mut block = 0;
@@ -187,7 +190,8 @@ fn try_inverse_transform(
     quantisers: &[u16],
     destination: &mut [i32],
 ) -> Outcome
-    ensures { λ r. ⌜ Tried (pos 0) (inverseTransform refinement blocks (now (values .entry)) (now (quantisers .entry)) (length (now (destination .entry)))) (now (destination .entry)) (now (destination .exit)) r ⌝ }
+    ensures { λ r. ⌜ Tried (pos 0) (inverseTransform refinement blocks (now (values .entry)) (now (quantisers .entry)) (length (now (destination .entry))))
+        (now (destination .entry)) (now (destination .exit)) r ⌝ }
 {
     if 4 < refinement {
         return answers::refuse(20, 0);
@@ -226,7 +230,8 @@ pub fn inverse_transform(
     quantisers: &[u16],
     destination: &mut [i32],
 ) -> Answer
-    ensures { λ r. ⌜ Meets (pos 0) (inverseTransform refinement blocks (now (values .entry)) (now (quantisers .entry)) (length (now (destination .entry)))) (now (destination .entry)) (now (destination .exit)) r ⌝ }
+    ensures { λ r. ⌜ Meets (pos 0) (inverseTransform refinement blocks (now (values .entry)) (now (quantisers .entry)) (length (now (destination .entry))))
+        (now (destination .entry)) (now (destination .exit)) r ⌝ }
 {
     let outcome = try_inverse_transform(refinement, blocks, values, quantisers, destination);
     if let Outcome::Refused(_) = outcome {

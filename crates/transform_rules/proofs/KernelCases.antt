@@ -1,4 +1,4 @@
--- The kernel, the double sum and the rounding at chosen numbers, worked out by hand from 01 and computed on the definitions. Assumes nothing.
+-- The kernel, the double sum and the rounding at chosen numbers, worked out by hand from the rules and computed on the definitions. Assumes nothing.
 use mathlib.Core.Path.{_≡_, refl}
 use mathlib.Core.List.{List, [], _∷_, map, _++_}
 use Prim.Native.Nat.{ℕ}
@@ -49,7 +49,7 @@ pub sums-to-the-end : doubleSum (replicate 7 (pos 0) ++ (pos 1 ∷ replicate 48 
 unfolding doubleSum rowSum sumTo product kernel fullTurn halfTurn nineCosines
 sums-to-the-end = refl
 
--- "floor((sum + 2^27) / 2^28) + 2^(7+R)" on both sides of a half and of minus a half, at the centre 256
+-- "floor((sum of .. + 2^27) / 2^28) + 2^(7+R)" on both sides of a half and of minus a half, at the centre 256
 pub halves-up : map (λ s. rounded s (pos 256)) (pos 134217727 ∷ pos 134217728 ∷ negsuc 134217727 ∷ negsuc 134217728 ∷ []) ≡ pos 256 ∷ pos 257 ∷ pos 256 ∷ pos 255 ∷ []
 unfolding rounded
 halves-up = refl

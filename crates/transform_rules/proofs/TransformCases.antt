@@ -1,4 +1,4 @@
--- 01's case e, each definition at its edges, and every pair of refusals that follow one another as one input with both faults, worked out by hand. Assumes nothing.
+-- The whiteboard's case e (S5), each definition at its edges, and every pair of refusals that follow one another as one input with both faults, worked out by hand. Assumes nothing.
 use mathlib.Core.Path.{_≡_, refl}
 use mathlib.Core.Bool.{true, false}
 use mathlib.Core.List.{List, [], _∷_, map, _++_}
@@ -26,7 +26,7 @@ case-e = refl
 
 -- ---- the definitions at their edges
 
--- "index 1 is u = 1, v = 0; index 2 is u = 0, v = 1" (T.81, Figure 5), and the corners
+-- T5: index 1 is u = 1, v = 0; index 2 is u = 0, v = 1 (T.81, Figure 5), and the corners
 pub zigzag-told : map (λ (p : ℕ × ℕ). zigzag (p .0) (p .1)) ((0, 0) ∷ (0, 1) ∷ (1, 0) ∷ (2, 0) ∷ (1, 1) ∷ (0, 2) ∷ (0, 7) ∷ (7, 0) ∷ (7, 6) ∷ (6, 7) ∷ (7, 7) ∷ [])
     ≡ 0 ∷ 1 ∷ 2 ∷ 3 ∷ 4 ∷ 5 ∷ 28 ∷ 35 ∷ 62 ∷ 61 ∷ 63 ∷ []
 unfolding zigzag placesBefore firstRow lastRow

@@ -1,4 +1,4 @@
--- The call's verdict (01: "Transform: 20, 21, 22, 11, 9").
+-- T1 to T4: the verdict of the call, "Transform: 20, 21, 22, 11, 9".
 use mathlib.Core.Bool.{Bool}
 use mathlib.Core.List.{List, [], _∷_}
 use Prim.Native.Nat.{ℕ, _*_}
@@ -13,15 +13,15 @@ use Rattle.levels.specs.Level.{firstOutside}
 use Rattle.levels.specs.declared.Part.the-variants.{Whole}
 use Rattle.transform_rules.specs.Picture.{picture}
 
--- what 22 asks: "quantiser entry not 1..255"
+-- T3: what 22 asks: "quantiser entry not 1..255"
 unfoldable pub isQuantiser : ℕ → Bool
 isQuantiser entry = every (leb 1 entry ∷ leb entry 255 ∷ [])
 
--- 22, "first index"
+-- T3: 22, "first index"
 unfoldable pub firstBadQuantiser : List ℕ → Found
 firstBadQuantiser quantisers = firstFail (length quantisers) (λ i. isQuantiser (getD quantisers i 0))
 
--- "Rh and Rr .. 0 to 4", "0 to 1,024 blocks a call"; "64 a block for the transform", "64 lent numbers"; the values are at level R
+-- N9, T1, T2, T4: "Rh and Rr .. 0 to 4", "0 to 1,024 blocks a call"; "64 a block for the transform", "64 lent numbers"; the values are at level R
 unfoldable pub inverseTransform : ℕ → ℕ → List ℤ → List ℕ → ℕ → Verdict ℤ
 inverseTransform refinement blocks values quantisers room =
     need (every (leb refinement 4 ∷ leb blocks 1024 ∷ [])) 20 0

@@ -1,4 +1,4 @@
--- Dequantising, and the samples of a picture's blocks (01, "Inverse transform").
+-- T6, T8 and T9: dequantising, and the samples of a picture's blocks.
 use mathlib.Core.Path.{_≡_}
 use mathlib.Core.List.{List}
 use Prim.Native.Nat.{ℕ, _+_, _*_, _^_, _≤_}
@@ -8,20 +8,20 @@ use Rattle.laws.specs.Index.{tab, joinTo}
 use Rattle.transform_rules.specs.Samples.{blockSamples}
 use Rattle.transform_rules.specs.Zigzag.{zigzagAt}
 
--- "Let S be the value times its quantiser."
+-- T6: "Let S be the value times its quantiser."
 unfoldable pub timesQuantiser : ℤ → ℕ → ℤ
 timesQuantiser value quantiser = value *ℤ pos quantiser
 
--- a block's 64 S, row by row; values are lent "in zigzag order: 64 a block", quantisers "in the same zigzag order"
+-- T6: a block's 64 S, row by row; values are lent "in zigzag order: 64 a block", quantisers "in the same zigzag order"
 unfoldable pub dequantised : List ℤ → List ℕ → ℕ → List ℤ
 dequantised values quantisers block =
     tab 64 (λ p. timesQuantiser (getD values (block * 64 + zigzagAt p) (pos 0)) (getD quantisers (zigzagAt p) 0))
 
--- "2^(7+R), R being Rh or Rr"
+-- L7, T8: "2^(7+R), R being Rh or Rr"
 unfoldable pub centre : ℕ → ℤ
 centre refinement = pos (2 ^ (7 + refinement))
 
--- the samples of all blocks, one block after the other
+-- T9: the samples of all blocks, one block after the other
 unfoldable pub picture : ℕ → ℕ → List ℤ → List ℕ → List ℤ
 picture refinement blocks values quantisers = joinTo blocks (λ block. blockSamples (dequantised values quantisers block) (centre refinement))
 

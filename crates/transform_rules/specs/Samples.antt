@@ -1,4 +1,4 @@
--- A block's samples from its 64 products S (01, "Inverse transform").
+-- T8 and T9: a block's samples from its 64 products S.
 use mathlib.Core.Path.{_≡_}
 use mathlib.Core.List.{List}
 use Prim.Native.Nat.{ℕ, _+_, _*_, _/_, _%_, _^_, _≤_}
@@ -8,27 +8,27 @@ use lib.Signed.{shrZ}
 use Rattle.laws.specs.Index.{sumTo, tab}
 use Rattle.transform_rules.specs.Cosines.{kernel}
 
--- "K(x,u) K(y,v) S", "u the column frequency": s holds the 64 S row by row, that of row frequency v at 8v + u
+-- T8: "K(x,u) K(y,v) S", "u the column frequency": s holds the 64 S row by row, that of row frequency v at 8v + u
 unfoldable pub product : List ℤ → ℕ → ℕ → ℕ → ℕ → ℤ
 product s x y v u = kernel x u *ℤ kernel y v *ℤ getD s (v * 8 + u) (pos 0)
 
--- the products of one row frequency
+-- T8: the products of one row frequency
 unfoldable pub rowSum : List ℤ → ℕ → ℕ → ℕ → ℤ
 rowSum s x y v = sumTo 8 (product s x y v)
 
--- "sum of K(x,u) K(y,v) S"
+-- T8: "sum of K(x,u) K(y,v) S"
 unfoldable pub doubleSum : List ℤ → ℕ → ℕ → ℤ
 doubleSum s x y = sumTo 8 (rowSum s x y)
 
--- "floor((sum of .. + 2^27) / 2^28) + 2^(7+R)", the last being the centre; `shrZ z m` is the floor of z / m
+-- T8: "floor((sum of .. + 2^27) / 2^28) + 2^(7+R)", the last being the centre; `shrZ z m` is the floor of z / m
 unfoldable pub rounded : ℤ → ℤ → ℤ
 rounded sum centre = shrZ (sum +ℤ pos (2 ^ 27)) (2 ^ 28) +ℤ centre
 
--- "The sample at row y, column x"
+-- T8: "The sample at row y, column x"
 unfoldable pub sample : List ℤ → ℤ → ℕ → ℕ → ℤ
 sample s centre x y = rounded (doubleSum s x y) centre
 
--- "a block's samples stand row by row"
+-- T9: "a block's samples stand row by row"
 unfoldable pub blockSamples : List ℤ → ℤ → List ℤ
 blockSamples s centre = tab 64 (λ p. sample s centre (p % 8) (p / 8))
 

@@ -1,4 +1,4 @@
-// Windows of sequence numbers: where each packet of a window stands, and the smallest number that is missing (01, refusal 7).
+// Windows of sequence numbers: where each packet of a window stands, and the smallest number that is missing (7, docs/RULES.md, P8).
 use laws::Found;
 use packets::Next;
 ghost use mathlib.Core.Path.{_≡_};
