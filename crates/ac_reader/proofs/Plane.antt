@@ -21,7 +21,7 @@ use Rattle.bit_rules.specs.Table.{Table}
 use Rattle.plane_rules.specs.Plane.{Plane, read, onto}
 use Rattle.plane_rules.specs.AcRead.{acBlock, acBlocks, cut}
 use Rattle.planes.specs.Code.{planeOf, Ran, Small}
-use Rattle.planes.specs.declared.Blocks.the-variants.{Read, Broken}
+use Rattle.planes.specs.declared.Blocks.the-variants.{Read, Refused}
 use Rattle.planes.proofs.DcReading.{onto-none, onto-onto}
 use Rattle.ac_tasks.specs.Code.{openOf}
 use Rattle.ac_tasks.specs.declared.Open.{Open}
@@ -83,7 +83,7 @@ module _ {bytes : List ℕ} {T : Table} {blocks : ℕ} {values before now : List
       behind-part = drop-put at (at + 63) now part (omega arith) fits long ∙ drop-later at (at + 63) (omega arith) now before (a .rest)
 
       pub behind-stopped : {x : Stop} → acBlock T (blocks - block) (openOf task) (take (at + 63 - at) (drop at values)) (sourceOf bytes c) ≡ stopped x
-          → Ran bytes (63 * blocks) whole before (putMid at (at + 63 - at) now part) (Broken (refusal (x .number) block))
+          → Ran bytes (63 * blocks) whole before (putMid at (at + 63 - at) now part) (Refused (refusal (x .number) block))
       unfolding planeOf acBlocks onto
       behind-stopped e = record {
         same = rw (next, left, e) at (a .same);

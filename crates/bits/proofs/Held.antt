@@ -130,9 +130,9 @@ module _ {M : Type 1} (𝓤 : URA M) (H : Heap 𝓤) (A : Atoms 𝓤) (W : Given
 -- ---- what the contracts come to
 
 -- a reader just made stands for data of which nothing was read
-pub fresh : (bytes : List ℕ) → sourceOf bytes unread ≡ start bytes
+pub start-source : (bytes : List ℕ) → sourceOf bytes unread ≡ start bytes
 unfolding sourceOf highs
-fresh bytes = refl
+start-source bytes = refl
 
 -- moved on to the cursor that `next_bit` answers, it stands for what is left after the bit
 pub moved-on : (d : BitReader) (b : Bool) (c : Cursor) → takenOf (now (d .«data»)) (Bit b c) ≡ takeBit (sourceOf (now (d .«data»)) (cursorOf d))

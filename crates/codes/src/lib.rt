@@ -11,6 +11,7 @@ use bit_rules::Stop;
 use bits::Cursor;
 use bits::Taken;
 
+// A value and what is left, or why there is none.
 pub enum Coded {
     Value(u8, Cursor),
     Stopped(Stop),
@@ -123,8 +124,7 @@ pub fn take_code(counts: &[u8], values: &[u8], data: &[u8], c: Cursor) -> Coded
                 over = 2 * over + (b as usize);
                 cursor = next;
             }
-            Taken::Ended => return Coded::Stopped(Stop { number: 12 }),
-            Taken::Marker => return Coded::Stopped(Stop { number: 13 }),
+            Taken::Stopped(x) => return Coded::Stopped(x),
         }
         let n = wide(counts[l]);
         if over < n {

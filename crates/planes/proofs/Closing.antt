@@ -17,12 +17,12 @@ use Rattle.bits.specs.declared.Cursor.{Cursor}
 use Rattle.plane_rules.specs.Plane.{Plane, read, closed}
 use Rattle.planes.specs.Code.{planeOf, Ran, Closes}
 use Rattle.planes.specs.declared.Blocks.{Blocks}
-use Rattle.planes.specs.declared.Blocks.the-variants.{Read, Broken}
+use Rattle.planes.specs.declared.Blocks.the-variants.{Read}
 
 module _ {bytes : List ℕ} {count : ℕ} {ran : Blocks} where
-  pub closes-broken : {r : Refusal} → ran ≡ Broken r → Closes bytes count ran (Refused r)
+  pub closes-refused : {r : Refusal} → ran ≡ Blocks.Refused r → Closes bytes count ran (Refused r)
   unfolding closed planeOf
-  closes-broken e = record { told = λ values n. rw e }
+  closes-refused e = record { told = λ values n. rw e }
 
   module _ {c : Cursor} (e : ran ≡ Read c) where
     pub closes-given : onlyPadding (sourceOf bytes c) ≡ true → Closes bytes count ran (Given count)
@@ -43,7 +43,7 @@ kept-values bytes values before (Read c) count e = go (onlyPadding (sourceOf byt
         → leaves (pos 0) (cond t (given values) (refused (refusal 18 (sourceOf bytes c .seen)))) before ≡ values ++ drop (length values) before
     go true e = refl
     go false e = let z : _≡_ {A = ℕ} 0 1 = cc in let y : ⊥ = omega arith in absurd y
-kept-values bytes values before (Broken r) count e = let z : _≡_ {A = ℕ} 0 1 = cc in let y : ⊥ = omega arith in absurd y
+kept-values bytes values before (Blocks.Refused r) count e = let z : _≡_ {A = ℕ} 0 1 = cc in let y : ⊥ = omega arith in absurd y
 
 pub closing : {bytes : List ℕ} {n : ℕ} {plane : Plane} {before after : List ℤ} {r : Blocks} {o : Outcome} → Ran bytes n plane before after r → n ≤ length after
     → Closes bytes n r o → Tried (pos 0) (closed plane) before after o

@@ -17,7 +17,7 @@ use Rattle.bits.specs.declared.Cursor.{Cursor}
 use Rattle.plane_rules.specs.Plane.{Plane, read, broken, onto}
 use Rattle.plane_rules.specs.Dc.{newDc, dcBlocks}
 use Rattle.planes.specs.Code.{planeOf, Ran}
-use Rattle.planes.specs.declared.Blocks.the-variants.{Read, Broken}
+use Rattle.planes.specs.declared.Blocks.the-variants.{Read, Refused}
 
 pub onto-none : (p : Plane) → onto [] p ≡ p
 unfolding onto
@@ -55,7 +55,7 @@ module _ {bytes : List ℕ} {values before now : List ℤ} {c : Cursor} {i : ℕ
     next : drop i values ≡ getD values i (pos 0) ∷ drop (suc i) values
     next = drop-cons values i (pos 0) h
 
-    pub now-stopped : {x : Stop} → takeBit (sourceOf bytes c) ≡ stopped x → Ran bytes (length values) (dcBlocks 0 values (start bytes)) before now (Broken (refusal (x .number) i))
+    pub now-stopped : {x : Stop} → takeBit (sourceOf bytes c) ≡ stopped x → Ran bytes (length values) (dcBlocks 0 values (start bytes)) before now (Refused (refusal (x .number) i))
     unfolding planeOf dcBlocks onto
     now-stopped e = record {
       same = rw (next, e) at (a .same);

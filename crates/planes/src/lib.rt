@@ -7,8 +7,7 @@ ghost use lib.ListN.{length};
 ghost use Rattle.answers.specs.Verdict.{Meets, Tried};
 ghost use Rattle.laws.specs.Index.{every};
 ghost use Rattle.bit_rules.specs.Source.{start};
-ghost use Rattle.bits.specs.Code.{Puts};
-ghost use Rattle.bits.proofs.Putting.{fresh};
+ghost use Rattle.bits.specs.Code.{newPutter, Puts};
 ghost use Rattle.plane_rules.specs.Plane.{readable, writable};
 ghost use Rattle.plane_rules.specs.Dc.{newDc, dcBlocks, readDc, dcBit, writeDc};
 ghost use Rattle.planes.specs.Code.{Small, Ran, Closes};
@@ -24,7 +23,7 @@ use levels::Part;
 // What reading the blocks of a plane comes to.
 pub enum Blocks {
     Read(Cursor),
-    Broken(Refusal),
+    Refused(Refusal),
 }
 
 // "new DC = 2c + bit"
@@ -54,12 +53,8 @@ fn read_dc_blocks(data: &[u8], values: &[i32], destination: &mut [i32]) -> Block
                 destination[i] = new_dc(values[i], b);
                 c = next;
             }
-            Taken::Ended => return Blocks::Broken(Refusal {
-                number: 12,
-                place: i,
-            }),
-            Taken::Marker => return Blocks::Broken(Refusal {
-                number: 13,
+            Taken::Stopped(x) => return Blocks::Refused(Refusal {
+                number: x.number,
                 place: i,
             }),
         }
@@ -93,7 +88,7 @@ pub fn close_plane(data: &[u8], count: usize, ran: Blocks) -> Outcome
     ensures { λ r. ⌜ Closes (now («data» .entry)) count ran r ⌝ }
 {
     match ran {
-        Blocks::Broken(r) => Outcome::Refused(r),
+        Blocks::Refused(r) => Outcome::Refused(r),
         Blocks::Read(c) => {
             if bits::only_padding(data, c) {
                 return Outcome::Given(count);
@@ -158,7 +153,7 @@ fn dc_bit(value: i32) -> bool
 // The bits of all values.
 fn put_dc_bits(values: &[i32], destination: &mut [u8]) -> Putter
     requires { ⌜ length (now values) ≤ 1024 ⌝ }
-    ensures { λ r. ⌜ Puts (now (destination .entry)) (now (destination .exit)) fresh r (map dcBit (now (values .entry))) ⌝ }
+    ensures { λ r. ⌜ Puts (now (destination .entry)) (now (destination .exit)) newPutter r (map dcBit (now (values .entry))) ⌝ }
 {
     let mut p = Putter {
         at: 0,
