@@ -24,6 +24,10 @@ highs (suc n) byte = eqb (byte / 128) 1 ∷ highs n (byte % 128 * 2)
 unfoldable pub sourceOf : List ℕ → Cursor → Source
 sourceOf bytes c = source (highs (c .left) (c .byte)) (drop (c .at) bytes) (c .at)
 
+-- nothing was read
+abbrev pub unread : Cursor
+unread = record { at = 0; left = 0; byte = 0 }
+
 unfoldable pub takenOf : List ℕ → Taken → Out Bool
 takenOf bytes (Bit b c) = got b (sourceOf bytes c)
 takenOf bytes (Stopped x) = stopped x

@@ -47,7 +47,7 @@ fn top(at: usize, left: u8, byte: u8) -> Taken
 }
 
 // The next bit. "A byte is read only when a bit of it is needed."
-pub fn take_bit(data: &[u8], c: Cursor) -> Taken
+fn take_bit(data: &[u8], c: Cursor) -> Taken
     ensures { λ r. ⌜ takenOf (now («data» .entry)) r ≡ takeBit (sourceOf (now («data» .entry)) c) ⌝ }
 {
     let at = c.at;
@@ -88,7 +88,7 @@ fn ones_left(left: u8, byte: u8) -> bool
 }
 
 // Whether nothing but padding is left.
-pub fn only_padding(data: &[u8], c: Cursor) -> bool
+fn only_padding(data: &[u8], c: Cursor) -> bool
     ensures { λ r. ⌜ r ≡ onlyPadding (sourceOf (now («data» .entry)) c) ⌝ }
 {
     let at = c.at;

@@ -118,7 +118,7 @@ pub fn take_code(counts: &[u8], values: &[u8], data: &[u8], c: Cursor) -> Coded
     let mut place = 0;
     let mut l = 0;
     while l < counts.len() {
-        let t = bits::take_bit(data, cursor);
+        let t = bits::reader::bit_at(data, cursor);
         match t {
             Taken::Bit(b, next) => {
                 over = 2 * over + (b as usize);

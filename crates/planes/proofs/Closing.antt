@@ -29,9 +29,9 @@ module _ {bytes : List ℕ} {count : ℕ} {ran : Blocks} where
     unfolding closed planeOf
     closes-given t = record { told = λ values n. rw (e, t, n) }
 
-    pub closes-left : {o : Outcome} → onlyPadding (sourceOf bytes c) ≡ false → o ≡ Refused (refusal 18 (c .at)) → Closes bytes count ran o
-    unfolding closed planeOf sourceOf
-    closes-left t q = record { told = λ values n. q ∙ sym (ap (λ (r : Blocks). outcomeOf (closed (planeOf bytes values r))) e ∙ rw t) }
+    pub closes-left : {o : Outcome} {seen : ℕ} → onlyPadding (sourceOf bytes c) ≡ false → seen ≡ sourceOf bytes c .seen → o ≡ Refused (refusal 18 seen) → Closes bytes count ran o
+    unfolding closed planeOf
+    closes-left t m q = record { told = λ values n. q ∙ rw (e, t, m) }
 
 -- a plane that was closed well holds its values in front
 kept-values : (bytes : List ℕ) (values before : List ℤ) (r : Blocks) (count : ℕ) → outcomeOf (closed (planeOf bytes values r)) ≡ Given count

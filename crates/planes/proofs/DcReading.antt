@@ -11,7 +11,8 @@ use lib.Seq.{drop-cons, drop-set-lt, take-suc-set}
 use Rattle.laws.proofs.Parts.{drop-later}
 use Rattle.answers.specs.Verdict.{refusal}
 use Rattle.bit_rules.specs.Source.{start, got, stopped, takeBit}
-use Rattle.bits.specs.Code.{sourceOf, highs}
+use Rattle.bits.specs.Code.{unread, sourceOf}
+use Rattle.bits.proofs.Taking.{start-source}
 use Rattle.bit_rules.specs.declared.Stop.{Stop}
 use Rattle.bits.specs.declared.Cursor.{Cursor}
 use Rattle.plane_rules.specs.Plane.{Plane, read, broken, onto}
@@ -36,9 +37,8 @@ pub record Now (bytes : List ℕ) (values before now : List ℤ) (c : Cursor) (i
   pub rest : drop i now ≡ drop i before
   pub same : onto (take i now) (dcBlocks i (drop i values) (sourceOf bytes c)) ≡ dcBlocks 0 values (start bytes)
 
-pub now-first : {bytes : List ℕ} {values before : List ℤ} → Now bytes values before before (record { at = 0; left = 0; byte = 0 }) 0
-unfolding sourceOf highs
-now-first = record { within = omega arith; long = refl; rest = refl; same = onto-none _ }
+pub now-first : {bytes : List ℕ} {values before : List ℤ} → Now bytes values before before unread 0
+now-first {bytes} = record { within = omega arith; long = refl; rest = refl; same = rw (start-source bytes) (onto-none _) }
 
 module _ {bytes : List ℕ} {values before now : List ℤ} {c : Cursor} {i : ℕ} (a : Now bytes values before now c i) where
   pub now-end : length values ≤ i → Ran bytes (length values) (dcBlocks 0 values (start bytes)) before now (Read c)

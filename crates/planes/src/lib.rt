@@ -47,7 +47,7 @@ fn read_dc_blocks(data: &[u8], values: &[i32], destination: &mut [i32]) -> Block
     };
     let mut i = 0;
     while i < values.len() {
-        let t = bits::take_bit(data, c);
+        let t = bits::reader::bit_at(data, c);
         match t {
             Taken::Bit(b, next) => {
                 destination[i] = new_dc(values[i], b);
@@ -90,10 +90,11 @@ pub fn close_plane(data: &[u8], count: usize, ran: Blocks) -> Outcome
     match ran {
         Blocks::Refused(r) => Outcome::Refused(r),
         Blocks::Read(c) => {
-            if bits::only_padding(data, c) {
+            let e = bits::reader::end_at(data, c);
+            if e.padding {
                 return Outcome::Given(count);
             }
-            answers::refuse(18, c.at)
+            answers::refuse(18, e.seen)
         }
     }
 }

@@ -24,21 +24,21 @@ returns-3 c = rw (low-bits (c .before .before .before .before .before .args .v) 
 returns-4 : tie.Need-returns-4
 unfolding meaning askedOf takenOf
 returns-4 c =
-    let at-take-bit = c .before .before .before in
-    let at-if2 = at-take-bit .before in
+    let at-bit = c .before .before .before in
+    let at-if2 = at-bit .before in
     let at-if1 = at-if2 .before in
     let at-wide = at-if1 .before in
     let at-entry = at-wide .before .before in
-    rw (low-one (at-entry .args .v) (at-if2 .if2 .left) (at-if1 .if1 .left), sym (at-take-bit .take-bit .ensures) ∙ ap (takenOf _) (c .before .t .given .1), at-wide .wide .ensures)
+    rw (low-one (at-entry .args .v) (at-if2 .if2 .left) (at-if1 .if1 .left), sym (at-bit .bit-at .ensures) ∙ ap (takenOf _) (c .before .t .given .1), at-wide .wide .ensures)
 
 returns-5 : tie.Need-returns-5
 unfolding meaning askedOf takenOf
 returns-5 c =
-    let at-take-bit = c .before .before .before in
-    let at-if2 = at-take-bit .before in
+    let at-bit = c .before .before .before in
+    let at-if2 = at-bit .before in
     let at-if1 = at-if2 .before in
     let at-entry = at-if1 .before .before .before in
-    rw (low-one (at-entry .args .v) (at-if2 .if2 .left) (at-if1 .if1 .left), sym (at-take-bit .take-bit .ensures) ∙ ap (takenOf _) (c .before .t2 .given .1))
+    rw (low-one (at-entry .args .v) (at-if2 .if2 .left) (at-if1 .if1 .left), sym (at-bit .bit-at .ensures) ∙ ap (takenOf _) (c .before .t2 .given .1))
 
 pub meaning-spec : {M : Type 1} → statement M
 meaning-spec =

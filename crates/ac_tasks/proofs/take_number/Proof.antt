@@ -26,12 +26,12 @@ add-v c = omega (arith, bin-small (c .before .t .given .0 .0), now-small (c .bef
 returns : tie.Need-returns Inv-loop μ-loop
 unfolding takenOf
 returns c =
-    let at-take-bit = c .before .before .before in
-    now-stopped (at-take-bit .before .before .loop .inv) (at-take-bit .before .loop-test .taken) (sym (at-take-bit .take-bit .ensures) ∙ ap (takenOf _) (c .before .t2 .given .1))
+    let at-bit = c .before .before .before in
+    now-stopped (at-bit .before .before .loop .inv) (at-bit .before .loop-test .taken) (sym (at-bit .bit-at .ensures) ∙ ap (takenOf _) (c .before .t2 .given .1))
 
 loop-again : tie.Need-loop-again Inv-loop μ-loop
 unfolding takenOf
-loop-again c = now-turn (c .before .before .before .before .before .loop .inv) (c .before .before .before .before .loop-test .taken) (sym (c .before .before .before .take-bit .ensures) ∙ ap (takenOf _) (c .before .t .given .1))
+loop-again c = now-turn (c .before .before .before .before .before .loop .inv) (c .before .before .before .before .loop-test .taken) (sym (c .before .before .before .bit-at .ensures) ∙ ap (takenOf _) (c .before .t .given .1))
 
 returns-2 : tie.Need-returns-2 Inv-loop μ-loop
 returns-2 c = now-end (c .before .loop .inv) (c .loop-test .left)

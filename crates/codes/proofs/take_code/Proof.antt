@@ -26,7 +26,7 @@ loop-holds c = here-first _ (c .before .before .before .pre) _
 took : (c : tie.After-t Inv-loop μ-loop)
     → takeBit (sourceOf (c .before .before .before .before .before .before .before .before .args .«data» .now) (c .before .before .before .before .loop .cursor)) ≡ got (c .t .given .0 .0) (sourceOf (c .before .before .before .before .before .before .before .before .args .«data» .now) (c .t .given .0 .1 .0))
 unfolding takenOf
-took c = sym (c .before .before .take-bit .ensures) ∙ ap (takenOf _) (c .t .given .1)
+took c = sym (c .before .before .bit-at .ensures) ∙ ap (takenOf _) (c .t .given .1)
 
 mul-over : tie.Need-mul-over Inv-loop μ-loop
 mul-over c = omega (arith, here-small (c .before .before .before .before .before .loop .inv) (c .before .before .before .before .before .before .before .before .before .pre) (c .before .before .before .before .loop-test .taken))
@@ -41,8 +41,8 @@ add-over c =
 returns : tie.Need-returns Inv-loop μ-loop
 unfolding codedOf takenOf
 returns c =
-    let at-take-bit = c .before .before .before in
-    here-stopped (at-take-bit .before .before .loop .inv) (at-take-bit .before .loop-test .taken) (sym (at-take-bit .take-bit .ensures) ∙ ap (takenOf _) (c .before .t2 .given .1))
+    let at-bit = c .before .before .before in
+    here-stopped (at-bit .before .before .loop .inv) (at-bit .before .loop-test .taken) (sym (at-bit .bit-at .ensures) ∙ ap (takenOf _) (c .before .t2 .given .1))
 
 add-t20 : tie.Need-add-t20 Inv-loop μ-loop
 add-t20 c =

@@ -27,7 +27,7 @@ loop-holds c = now-first
 took : (c : tie.After-t Inv-loop μ-loop)
     → takeBit (sourceOf (c .before .before .before .before .before .before .args .«data» .now) (c .before .before .before .before .loop .c)) ≡ got (c .t .given .0 .0) (sourceOf (c .before .before .before .before .before .before .args .«data» .now) (c .t .given .0 .1 .0))
 unfolding takenOf
-took c = sym (c .before .before .take-bit .ensures) ∙ ap (takenOf _) (c .t .given .1)
+took c = sym (c .before .before .bit-at .ensures) ∙ ap (takenOf _) (c .t .given .1)
 
 -- the old value, as the code reads it
 old : (c : tie.After-new-dc-arg Inv-loop μ-loop)
@@ -43,8 +43,8 @@ same-length c = c .before .before .before .before .before .loop .inv .long
 returns : tie.Need-returns Inv-loop μ-loop
 unfolding takenOf
 returns c =
-    let at-take-bit = c .before .before .before in
-    now-stopped (at-take-bit .before .before .loop .inv) (at-take-bit .before .loop-test .taken) (sym (at-take-bit .take-bit .ensures) ∙ ap (takenOf _) (c .before .t2 .given .1))
+    let at-bit = c .before .before .before in
+    now-stopped (at-bit .before .before .loop .inv) (at-bit .before .loop-test .taken) (sym (at-bit .bit-at .ensures) ∙ ap (takenOf _) (c .before .t2 .given .1))
 
 -- the new value, as it is stored
 stored : (c : tie.After-new-dc Inv-loop μ-loop)
