@@ -14,7 +14,7 @@ use Rattle.answers.specs.declared.Outcome.the-variants.{Given, Refused}
 use Rattle.bit_rules.specs.Source.{onlyPadding}
 use Rattle.bits.specs.Code.{sourceOf}
 use Rattle.bits.specs.declared.Cursor.{Cursor}
-use Rattle.plane_rules.specs.Plane.{Plane, read, closed}
+use Rattle.plane_rules.specs.Plane.{Plane, closed}
 use Rattle.planes.specs.Code.{planeOf, Ran, Closes}
 use Rattle.planes.specs.declared.Blocks.{Blocks}
 use Rattle.planes.specs.declared.Blocks.the-variants.{Read}

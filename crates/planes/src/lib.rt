@@ -38,7 +38,8 @@ fn new_dc(value: i32, bit: bool) -> i32
 fn read_dc_blocks(data: &[u8], values: &[i32], destination: &mut [i32]) -> Blocks
     requires { ⌜ Small (now values) ⌝ }
     requires { ⌜ length (now values) ≤ length (now destination) ⌝ }
-    ensures { λ r. ⌜ Ran (now («data» .entry)) (length (now (values .entry))) (dcBlocks 0 (now (values .entry)) (start (now («data» .entry)))) (now (destination .entry)) (now (destination .exit)) r ⌝ }
+    ensures { λ r. ⌜ Ran (now («data» .entry)) (length (now (values .entry))) (dcBlocks 0 (now (values .entry)) (start (now («data» .entry))))
+        (now (destination .entry)) (now (destination .exit)) r ⌝ }
 {
     let mut c = Cursor {
         at: 0,
@@ -107,7 +108,8 @@ fn try_read_dc(
     values: &[i32],
     destination: &mut [i32],
 ) -> Outcome
-    ensures { λ r. ⌜ Tried (pos 0) (readDc plane blocks (now (values .entry)) (now («data» .entry)) (length (now (destination .entry)))) (now (destination .entry)) (now (destination .exit)) r ⌝ }
+    ensures { λ r. ⌜ Tried (pos 0) (readDc plane blocks (now (values .entry)) (now («data» .entry)) (length (now (destination .entry))))
+        (now (destination .entry)) (now (destination .exit)) r ⌝ }
 {
     if !readable(plane, blocks) {
         return answers::refuse(20, 0);
@@ -134,7 +136,8 @@ pub fn read_dc(
     values: &[i32],
     destination: &mut [i32],
 ) -> Answer
-    ensures { λ r. ⌜ Meets (pos 0) (readDc plane blocks (now (values .entry)) (now («data» .entry)) (length (now (destination .entry)))) (now (destination .entry)) (now (destination .exit)) r ⌝ }
+    ensures { λ r. ⌜ Meets (pos 0) (readDc plane blocks (now (values .entry)) (now («data» .entry)) (length (now (destination .entry))))
+        (now (destination .entry)) (now (destination .exit)) r ⌝ }
 {
     let o = try_read_dc(plane, blocks, data, values, destination);
     if let Outcome::Refused(_) = o {
@@ -172,7 +175,8 @@ fn put_dc_bits(values: &[i32], destination: &mut [u8]) -> Putter
 
 // The bytes, or the first refusal.
 fn try_write_dc(plane: u32, blocks: usize, values: &[i32], destination: &mut [u8]) -> Outcome
-    ensures { λ r. ⌜ Tried 0 (writeDc plane blocks (now (values .entry)) (length (now (destination .entry)))) (now (destination .entry)) (now (destination .exit)) r ⌝ }
+    ensures { λ r. ⌜ Tried 0 (writeDc plane blocks (now (values .entry)) (length (now (destination .entry))))
+        (now (destination .entry)) (now (destination .exit)) r ⌝ }
 {
     if !writable(plane, blocks) {
         return answers::refuse(20, 0);
@@ -193,7 +197,8 @@ fn try_write_dc(plane: u32, blocks: usize, values: &[i32], destination: &mut [u8
 
 // Plane j of DC values of level j, coded against their halves.
 pub fn write_dc(plane: u32, blocks: usize, values: &[i32], destination: &mut [u8]) -> Answer
-    ensures { λ r. ⌜ Meets 0 (writeDc plane blocks (now (values .entry)) (length (now (destination .entry)))) (now (destination .entry)) (now (destination .exit)) r ⌝ }
+    ensures { λ r. ⌜ Meets 0 (writeDc plane blocks (now (values .entry)) (length (now (destination .entry))))
+        (now (destination .entry)) (now (destination .exit)) r ⌝ }
 {
     let o = try_write_dc(plane, blocks, values, destination);
     if let Outcome::Refused(_) = o {

@@ -1,15 +1,11 @@
 -- `ac_reader::read_block` meets its contract: what is left to read, behind the values read so far, is the whole. Assumes nothing.
-use mathlib.Core.Path.{_≡_, sym, ap, _∙_}
+use mathlib.Core.Path.{sym, ap, _∙_}
 use mathlib.Core.Option.{some}
 use Prim.Native.Nat.{_-_}
 use lib.ListN.{length}
-use Rattle.bit_rules.specs.Source.{got}
-use Rattle.bits.specs.Code.{sourceOf}
 use Rattle.bit_rules.specs.Table.{table}
-use Rattle.plane_rules.specs.AcRead.{taskAt}
 use Rattle.ac_tasks.specs.Code.{taskOf, openOf, askedOf, blockOf}
-use Rattle.ac_reader.specs.Walk.{At, Carries, Closes, Steps}
-use Rattle.ac_reader.specs.declared.Step.the-variants.{On, Out}
+use Rattle.ac_reader.specs.Walk.{At}
 use Rattle.ac_reader.proofs.Positions.{at-first, at-asked-stopped, at-asked, at-end}
 use native.Mathlib.Omega.{arith}
 use borrow.Author.Needs.{needs}
