@@ -14,14 +14,15 @@ use Rattle.laws.proofs.Integers.{split}
 use Rattle.laws.proofs.Parts.{drop-later, take-put-end}
 use Rattle.answers.specs.Verdict.{refusal}
 use Rattle.bit_rules.specs.Source.{start, got, stopped}
-use Rattle.bits.specs.Code.{sourceOf, highs}
+use Rattle.bits.specs.Code.{unread, sourceOf}
+use Rattle.bits.proofs.Taking.{start-source}
 use Rattle.bit_rules.specs.declared.Stop.{Stop}
 use Rattle.bits.specs.declared.Cursor.{Cursor}
 use Rattle.bit_rules.specs.Table.{Table}
 use Rattle.plane_rules.specs.Plane.{Plane, read, onto}
 use Rattle.plane_rules.specs.AcRead.{acBlock, acBlocks, cut}
 use Rattle.planes.specs.Code.{planeOf, Ran, Small}
-use Rattle.planes.specs.declared.Blocks.the-variants.{Read, Broken}
+use Rattle.planes.specs.declared.Blocks.the-variants.{Read, Refused}
 use Rattle.planes.proofs.DcReading.{onto-none, onto-onto}
 use Rattle.ac_tasks.specs.Code.{openOf}
 use Rattle.ac_tasks.specs.declared.Open.{Open}
@@ -40,9 +41,8 @@ pub record Behind (bytes : List ℕ) (T : Table) (blocks : ℕ) (values before n
   pub rest : drop at now ≡ drop at before
   pub same : onto (take at now) (acBlocks T block (openOf task) (cut (blocks - block) (drop at values)) (sourceOf bytes c)) ≡ acBlocks T 0 none (cut blocks values) (start bytes)
 
-pub behind-none : {bytes : List ℕ} {T : Table} {blocks : ℕ} {values before : List ℤ} → Behind bytes T blocks values before before Nothing (record { at = 0; left = 0; byte = 0 }) 0 0
-unfolding sourceOf highs
-behind-none {bytes} {T} {blocks} {values} = let z : blocks - 0 ≡ blocks = omega arith in record { within = omega arith; place = omega arith; long = refl; rest = refl; same = rw z (onto-none (acBlocks T 0 none (cut blocks values) (start bytes))) }
+pub behind-none : {bytes : List ℕ} {T : Table} {blocks : ℕ} {values before : List ℤ} → Behind bytes T blocks values before before Nothing unread 0 0
+behind-none {bytes} {T} {blocks} {values} = let z : blocks - 0 ≡ blocks = omega arith in record { within = omega arith; place = omega arith; long = refl; rest = refl; same = rw (z, start-source bytes) (onto-none (acBlocks T 0 none (cut blocks values) (start bytes))) }
 
 module _ {bytes : List ℕ} {T : Table} {blocks : ℕ} {values before now : List ℤ} {task : Open} {c : Cursor} {block at : ℕ} (a : Behind bytes T blocks values before now task c block at) where
   abbrev whole : Plane
@@ -83,7 +83,7 @@ module _ {bytes : List ℕ} {T : Table} {blocks : ℕ} {values before now : List
       behind-part = drop-put at (at + 63) now part (omega arith) fits long ∙ drop-later at (at + 63) (omega arith) now before (a .rest)
 
       pub behind-stopped : {x : Stop} → acBlock T (blocks - block) (openOf task) (take (at + 63 - at) (drop at values)) (sourceOf bytes c) ≡ stopped x
-          → Ran bytes (63 * blocks) whole before (putMid at (at + 63 - at) now part) (Broken (refusal (x .number) block))
+          → Ran bytes (63 * blocks) whole before (putMid at (at + 63 - at) now part) (Refused (refusal (x .number) block))
       unfolding planeOf acBlocks onto
       behind-stopped e = record {
         same = rw (next, left, e) at (a .same);

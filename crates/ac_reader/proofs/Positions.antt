@@ -20,7 +20,7 @@ use Rattle.plane_rules.specs.AcRead.{taskAt, position, corrected, blockEnd, acB
 use Rattle.ac_tasks.specs.Code.{openOf, blockOf}
 use Rattle.ac_reader.specs.Walk.{fixing, aim, aimed, inFront, At, Carries, Closes}
 use Rattle.ac_tasks.specs.declared.Block.{Block}
-use Rattle.ac_tasks.specs.declared.Block.the-variants.{Done, Halted}
+use Rattle.ac_tasks.specs.declared.Block.the-variants.{Done, Stopped}
 
 -- a value that is not zero takes one correction bit
 corrects : (t : Task) (value : ℤ) (s : Source) → (value ≡ pos 0 → ⊥) → position t value s ≡ andThen (λ (b : Bool). done (corrected value b, some t)) (takeBit s)
@@ -43,7 +43,7 @@ front-one values v (stopped x) = refl
 front-all : (bytes : List ℕ) (values : List ℤ) (r : Block) → inFront values (blockOf bytes [] r) ≡ blockOf bytes values r
 unfolding inFront blockOf
 front-all bytes values (Done task c) = ap (λ (l : List ℤ). got (l, openOf task) (sourceOf bytes c)) (append-nil values)
-front-all bytes values (Halted x) = refl
+front-all bytes values (Stopped x) = refl
 
 pub at-first : {bytes : List ℕ} {T : Table} {left : ℕ} {values now : List ℤ} {o : Option Task} {c : Cursor} → length now ≡ length values → At bytes T left values now o o c c 0
 at-first l = record { within = omega arith; long = l; same = front-none _ }
@@ -59,19 +59,19 @@ module _ {bytes : List ℕ} {T : Table} {left : ℕ} {values now : List ℤ} {o�
     next : drop i values ≡ getD values i (pos 0) ∷ drop (i + 1) values
     next = rw (add-one i) (drop-cons values i (pos 0) h)
 
-    pub at-untold : {x : Stop} → taskAt T left o (sourceOf bytes c) ≡ stopped x → stopped x ≡ acBlock T left o₀ values (sourceOf bytes c₀)
+    pub at-asked-stopped : {x : Stop} → taskAt T left o (sourceOf bytes c) ≡ stopped x → stopped x ≡ acBlock T left o₀ values (sourceOf bytes c₀)
     unfolding acBlock inFront
-    at-untold e = rw (next, e) at (a .same)
+    at-asked-stopped e = rw (next, e) at (a .same)
 
     -- a code was read: its task is open, and nothing else has changed
-    pub at-told : {t : Task} {d : Cursor} → taskAt T left o (sourceOf bytes c) ≡ got t (sourceOf bytes d) → At bytes T left values now o₀ (some t) c₀ d i
+    pub at-asked : {t : Task} {d : Cursor} → taskAt T left o (sourceOf bytes c) ≡ got t (sourceOf bytes d) → At bytes T left values now o₀ (some t) c₀ d i
     unfolding acBlock taskAt
-    at-told e = record { within = a .within; long = a .long; same = rw next (rw (next, e) at (a .same)) }
+    at-asked e = record { within = a .within; long = a .long; same = rw next (rw (next, e) at (a .same)) }
 
     module _ {t : Task} (e : o ≡ some t) where
-      pub at-stuck : {x : Stop} → position t (getD values i (pos 0)) (sourceOf bytes c) ≡ stopped x → stopped x ≡ acBlock T left o₀ values (sourceOf bytes c₀)
+      pub at-turn-stopped : {x : Stop} → position t (getD values i (pos 0)) (sourceOf bytes c) ≡ stopped x → stopped x ≡ acBlock T left o₀ values (sourceOf bytes c₀)
       unfolding acBlock taskAt inFront
-      at-stuck q = rw (next, e, q) at (a .same)
+      at-turn-stopped q = rw (next, e, q) at (a .same)
 
       pub at-turn : {v : ℤ} {after : Option Task} {d : Cursor} → position t (getD values i (pos 0)) (sourceOf bytes c) ≡ got (v, after) (sourceOf bytes d)
           → At bytes T left values (set now i v) o₀ after c₀ d (i + 1)
@@ -115,9 +115,9 @@ module _ {bytes : List ℕ} {values before now : List ℤ} {o : Option Task} {t 
     carries-zero z = record { long = λ l. length-set now j (atZero t) ∙ k .long l; same = λ T left o₀ c₀ a. at-turn (k .same T left o₀ c₀ a) h refl (rw z) }
 
     module _ (n : getD values j (pos 0) ≡ pos 0 → ⊥) where
-      pub carries-lost : {x : Stop} → fixing (getD values j (pos 0)) (takeBit (sourceOf bytes d)) ≡ stopped x → Closes bytes values before now o c i (Halted x)
+      pub carries-stopped : {x : Stop} → fixing (getD values j (pos 0)) (takeBit (sourceOf bytes d)) ≡ stopped x → Closes bytes values before now o c i (Stopped x)
       unfolding blockOf stays
-      carries-lost {x} e = record { same = λ T left o₀ c₀ a. at-stuck (k .same T left o₀ c₀ a) h refl (at-value t _ _ (stopped x) n e) }
+      carries-stopped {x} e = record { same = λ T left o₀ c₀ a. at-turn-stopped (k .same T left o₀ c₀ a) h refl (at-value t _ _ (stopped x) n e) }
 
       pub carries-fixed : {v : ℤ} {g : Cursor} → fixing (getD values j (pos 0)) (takeBit (sourceOf bytes d)) ≡ got v (sourceOf bytes g)
           → Carries bytes values before (set now j v) o (some t) c g i (j + 1)
@@ -131,9 +131,9 @@ landed true sign = (refl, refl)
 landed false sign = (refl, refl)
 
 module _ {bytes : List ℕ} {values before now : List ℤ} {o : Option Task} {s : Option Bool} {c d : Cursor} {i j : ℕ} where
-  pub carries-past : {m : ℕ} → Carries bytes values before now o (some (walk m s)) c d i j → length values ≤ j → Closes bytes values before now o c i (Halted (stop 16))
+  pub carries-past : {m : ℕ} → Carries bytes values before now o (some (walk m s)) c d i j → length values ≤ j → Closes bytes values before now o c i (Stopped (stop 16))
   unfolding blockOf blockEnd
-  carries-past k h = carries-end k (Halted (stop 16)) h refl
+  carries-past k h = carries-end k (Stopped (stop 16)) h refl
 
   pub carries-passed : (m : ℕ) → Carries bytes values before now o (some (walk m s)) c d i j → j < length values → getD values j (pos 0) ≡ pos 0 → (m ≡ 0 → ⊥)
       → Carries bytes values before (set now j (pos 0)) o (some (walk (m - 1) s)) c d i (j + 1)

@@ -16,13 +16,13 @@ use Rattle.plane_rules.specs.AcRead.{corrected, acBlock}
 use Rattle.ac_tasks.specs.Code.{blockOf}
 use Rattle.ac_tasks.specs.declared.Block.{Block}
 use Rattle.ac_reader.specs.declared.Fixed.{Fixed}
-use Rattle.ac_reader.specs.declared.Fixed.the-variants.{Now, Lost}
+use Rattle.ac_reader.specs.declared.Fixed.the-variants.{Now, Stopped}
 use Rattle.ac_reader.specs.declared.Step.{Step}
 use Rattle.ac_reader.specs.declared.Step.the-variants.{On, Out as Over}
 
 unfoldable pub fixedOf : List ℕ → Fixed → Out ℤ
 fixedOf bytes (Now value c) = got value (sourceOf bytes c)
-fixedOf bytes (Lost x) = stopped x
+fixedOf bytes (Stopped x) = stopped x
 
 -- a value corrected by the bit that was taken
 unfoldable pub fixing : ℤ → Out Bool → Out ℤ

@@ -17,7 +17,7 @@ use Rattle.bits.specs.declared.Cursor.{Cursor}
 use Rattle.bit_rules.proofs.Digits.{bin-small}
 use Rattle.plane_rules.specs.AcRead.{takeNumber, corrected}
 use Rattle.ac_tasks.specs.Code.{numberOf, Counts}
-use Rattle.ac_tasks.specs.declared.Number.the-variants.{Is, Cut}
+use Rattle.ac_tasks.specs.declared.Number.the-variants.{Is, Stopped}
 
 -- ---- the loop: what is left to read gives what the whole gives
 
@@ -45,7 +45,7 @@ module _ {bytes : List ℕ} {n : ℕ} {c₀ c : Cursor} {v left : ℕ} (a : Now 
     next : takeNumber (suc (left - 1)) v (sourceOf bytes c) ≡ takeNumber n 0 (sourceOf bytes c₀)
     next = let e : left ≡ suc (left - 1) = omega arith in subst (λ (k : ℕ). takeNumber k v (sourceOf bytes c) ≡ takeNumber n 0 (sourceOf bytes c₀)) e (a .same)
 
-    pub now-stopped : {x : Stop} → takeBit (sourceOf bytes c) ≡ stopped x → Counts bytes n c₀ (Cut x)
+    pub now-stopped : {x : Stop} → takeBit (sourceOf bytes c) ≡ stopped x → Counts bytes n c₀ (Stopped x)
     unfolding numberOf takeNumber
     now-stopped {x} e = record { same = rw e at next; small = λ w d i. let z : _≡_ {A = ℕ} 0 1 = cc in absurd (omega arith) }
 

@@ -17,7 +17,7 @@ use Rattle.ac_tasks.specs.declared.Job.{Job}
 use Rattle.ac_tasks.specs.declared.Job.the-variants.{Ended}
 use Rattle.ac_tasks.specs.declared.Open.{Open}
 use Rattle.ac_tasks.specs.declared.Open.the-variants.{Nothing, Doing}
-use Rattle.ac_tasks.specs.declared.Block.the-variants.{Done, Halted}
+use Rattle.ac_tasks.specs.declared.Block.the-variants.{Done, Stopped}
 use Rattle.ac_tasks.proofs.Numbers.{moved-one}
 
 one-less : (n : ℕ) → (n ≡ 0 → ⊥) → n ≡ suc (n - 1)
@@ -31,7 +31,7 @@ module _ {task : Open} {c : Cursor} where
   ends-none e = rw e (record { same = λ bytes. refl })
 
   module _ {job : Job} (e : task ≡ Doing job) where
-    pub ends-walk : {n : ℕ} {sign : Option Bool} → taskOf job ≡ walk n sign → BlockEnds task c (Halted (stop 16))
+    pub ends-walk : {n : ℕ} {sign : Option Bool} → taskOf job ≡ walk n sign → BlockEnds task c (Stopped (stop 16))
     unfolding blockEnd blockOf
     ends-walk q = record { same = λ bytes. rw (e, q) }
 

@@ -14,11 +14,11 @@ use Rattle.ac_tasks.specs.declared.Job.the-variants.{Leave, Set, Ended}
 use Rattle.ac_tasks.specs.declared.Open.{Open}
 use Rattle.ac_tasks.specs.declared.Open.the-variants.{Nothing, Doing}
 use Rattle.ac_tasks.specs.declared.Number.{Number}
-use Rattle.ac_tasks.specs.declared.Number.the-variants.{Is, Cut}
-use Rattle.ac_tasks.specs.declared.Told.{Told}
-use Rattle.ac_tasks.specs.declared.Told.the-variants.{Task as Telling, Untold}
+use Rattle.ac_tasks.specs.declared.Number.the-variants.{Is}
+use Rattle.ac_tasks.specs.declared.Asked.{Asked}
+use Rattle.ac_tasks.specs.declared.Asked.the-variants.{Task as Asking}
 use Rattle.ac_tasks.specs.declared.Block.{Block}
-use Rattle.ac_tasks.specs.declared.Block.the-variants.{Done, Halted}
+use Rattle.ac_tasks.specs.declared.Block.the-variants.{Done}
 
 abbrev pub taskOf : Job → Task
 taskOf (Leave n) = walk n none
@@ -31,16 +31,16 @@ openOf (Doing job) = some (taskOf job)
 
 unfoldable pub numberOf : List ℕ → Number → Out ℕ
 numberOf bytes (Is v c) = got v (sourceOf bytes c)
-numberOf bytes (Cut x) = stopped x
+numberOf bytes (Number.Stopped x) = stopped x
 
-unfoldable pub toldOf : List ℕ → Told → Out Task
-toldOf bytes (Telling job c) = got (taskOf job) (sourceOf bytes c)
-toldOf bytes (Untold x) = stopped x
+unfoldable pub askedOf : List ℕ → Asked → Out Task
+askedOf bytes (Asking job c) = got (taskOf job) (sourceOf bytes c)
+askedOf bytes (Asked.Stopped x) = stopped x
 
 -- these are the new values of a block that was read
 unfoldable pub blockOf : List ℕ → List ℤ → Block → Out (List ℤ × Option Task)
 blockOf bytes values (Done task c) = got (values, openOf task) (sourceOf bytes c)
-blockOf bytes values (Halted x) = stopped x
+blockOf bytes values (Block.Stopped x) = stopped x
 
 -- the number of the next n bits, and that it has no more than n
 pub record Counts (bytes : List ℕ) (n : ℕ) (c : Cursor) (r : Number) : Type 0 where

@@ -8,7 +8,7 @@ use native.Mathlib.Omega.{arith}
 use lib.IntN.{ℤ}
 use lib.ListN.{length, take, drop, length-take, length-drop}
 use lib.Seq.{take-length}
-use Rattle.bits.proofs.Putting.{fresh-sound}
+use Rattle.bits.proofs.Putting.{new-sound}
 use Rattle.bit_rules.specs.Table.{Table, goodTable}
 use Rattle.plane_rules.specs.Task.{Task}
 use Rattle.plane_rules.specs.AcWrite.{Kind, writeBlock, writeBlocks, tokens}
@@ -63,7 +63,7 @@ module _ {T : Table} {before : List ℕ} (blocks : ℕ) (values : List ℤ) wher
   pub run-start : Running T before before (record { pen = newPen; task = Nothing }) blocks values 0
   run-start = record {
     within = omega arith;
-    telling = rw (blocks-start blocks values, all-tokens blocks values) (telling-start fresh-sound);
+    telling = rw (blocks-start blocks values, all-tokens blocks values) (telling-start new-sound);
   }
 
   module _ {memory : List ℕ} {q : State} {n : ℕ} (w : Running T before memory q blocks values n) where

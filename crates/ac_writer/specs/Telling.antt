@@ -8,8 +8,7 @@ use lib.IntN.{ℤ}
 use lib.ListN.{length}
 use Rattle.laws.specs.declared.Found.{Found}
 use Rattle.laws.specs.declared.Found.the-variants.{At, Nothing}
-use Rattle.bits.specs.Code.{Sound, Puts}
-use Rattle.bits.proofs.Putting.{fresh}
+use Rattle.bits.specs.Code.{Sound, newPutter, Puts}
 use Rattle.bit_rules.specs.Table.{Table, goodTable}
 use Rattle.codes.specs.Code.{Entries}
 use Rattle.plane_rules.specs.Task.{Task}
@@ -29,7 +28,7 @@ firstOf Nothing next = next
 
 -- a pen that has told nothing
 abbrev pub newPen : Pen
-newPen = record { putter = fresh; lack = Nothing }
+newPen = record { putter = newPutter; lack = Nothing }
 
 -- a pen that can go on
 pub record PenReady (p : Pen) : Type 0 where

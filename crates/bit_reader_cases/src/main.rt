@@ -52,11 +52,8 @@ fn show(data: &[u8], count: usize) {
                 say_bit(bit);
                 c = next;
             }
-            Taken::Ended => {
-                return say_stop(data, c, 12);
-            }
-            Taken::Marker => {
-                return say_stop(data, c, 13);
+            Taken::Stopped(x) => {
+                return say_stop(data, c, x.number as u64);
             }
         }
         i += 1;

@@ -1,6 +1,5 @@
--- What the walks over a reader share: what it owns, what its data and its cursor own, what callees are passed of them; and two laws of the contracts. Assumes nothing.
-use mathlib.Core.Path.{_≡_, refl, sym}
-use mathlib.Core.Bool.{Bool}
+-- What the walks over a reader share: what it owns, what its data and its cursor own, what callees are passed of them. Assumes nothing.
+use mathlib.Core.Path.{_≡_}
 use mathlib.Core.List.{List, [], _∷_}
 use Prim.Native.Nat.{ℕ}
 use lib.ListN.{length}
@@ -16,17 +15,14 @@ use types.Kit.{Given, ‵, raw, _⊛_, given, ⋆, _$_, _∵_, !, qed, by, move,
 use denote.RattleType.{RattleType, owns}
 use denote.Builtin.{u8}
 use denote.Signature.{namedLft}
-use denote.Ref.{RefT, now}
+use denote.Ref.{RefT}
 use denote.Slice.{sliceVal, ShrSlice, shr-slice-copy}
 use denote.Steps.{nothing}
 use denote.Struct.Declared.{Declared}
 use denote.Struct.Laws as LL
 use denote.Struct.Rest.{all-own, ownAt, rest, own-open, own-out, own-shut}
 use denote.Struct.Values.{Values}
-use Rattle.bit_rules.specs.Source.{start, got, takeBit}
-use Rattle.bits.specs.Code.{highs, sourceOf, takenOf}
-use Rattle.bits.specs.Held.{unread, cursorOf, readerAt}
-use Rattle.bits.specs.declared.Taken.the-variants.{Bit}
+use Rattle.bits.specs.Held.{cursorOf, readerAt}
 use Rattle.bits.specs.declared.Cursor.{Cursor}
 use Rattle.bits.specs.declared.reader.BitReader.{BitReader}
 use Rattle.bits.proofs.Cursor as C
@@ -65,35 +61,34 @@ module _ {M : Type 1} (𝓤 : URA M) (H : Heap 𝓤) (A : Atoms 𝓤) (W : Given
       -- [the cursor; the cursor; nothing; the data; the data]
       move ! (0 ∷ 2 ∷ []) $ fjoin ! $ move ! (2 ∷ 0 ∷ []) $ fjoin ! $ move ! (1 ∷ []) $ nothing ! $ move ! (1 ∷ 0 ∷ []) $ fjoin ! $ move ! (2 ∷ 0 ∷ []) $ fjoin ! $ done !
 
-module _ {M : Type 1} (𝓤 : URA M) (H : Heap 𝓤) (A : Atoms 𝓤) (W : Given 𝓤 H A) (κ : Lft) (d : BitReader) where
-  abbrev D : Declared
-  D = T.the-type (namedLft 1 0 tt (κ, tt))
+-- the reader's type, and its laws
+abbrev D : Lft → Declared
+D κ = T.the-type (namedLft 1 0 tt (κ, tt))
 
-  abbrev L : LL.Laws D
-  L = T′.the-laws (namedLft 1 0 tt (κ, tt))
+abbrev L : (κ : Lft) → LL.Laws (D κ)
+L κ = T′.the-laws (namedLft 1 0 tt (κ, tt))
 
-  abbrev vd : Values (D .parts)
-  vd = (d .«data», (d .at, (d .left, (d .byte, tt))))
+module _ {M : Type 1} (𝓤 : URA M) (H : Heap 𝓤) (A : Atoms 𝓤) (W : Given 𝓤 H A) (κ : Lft) where
+  abbrev fields : BitReader → Values (D κ .parts)
+  fields d = (d .«data», (d .at, (d .left, (d .byte, tt))))
 
   -- a reader is Copy: it gives its data and its cursor, and is kept
-  apart : ent 𝓤 (sem 𝓤 H A (Own κ d)) (sep 𝓤 (sem 𝓤 H A (Both κ (d .«data») (cursorOf d))) (sem 𝓤 H A (Own κ d)))
-  apart =
-      qed W (‵ (Own κ d) ∷ []) ∵ use1 W (‵ (Own κ d) ⊛ ‵ (Own κ d)) (LL.copy D (T′.the-copy (namedLft 1 0 tt (κ, tt))) 𝓤 H A W .twice d (T′.lowered d ∷ [])) $ split ! $
-      use1 W (given (T′.lowered d ∷ [] ≡ T′.lowered d ∷ []) (‵ (all-own (D .parts) L vd))) (own-open 𝓤 H A W D L vd (T′.lowered d)) $ learn ! (λ _.
-      use1 W (‵ (ownAt (D .parts) L 0 (d .«data»)) ⊛ ‵ (rest (D .parts) L 0 vd)) (own-out 𝓤 H A W (D .parts) L 0 vd) $ split ! $
+  apart : (d : BitReader) → ent 𝓤 (sem 𝓤 H A (Own κ d)) (sep 𝓤 (sem 𝓤 H A (Both κ (d .«data») (cursorOf d))) (sem 𝓤 H A (Own κ d)))
+  apart d =
+      qed W (‵ (Own κ d) ∷ []) ∵ use1 W (‵ (Own κ d) ⊛ ‵ (Own κ d)) (LL.copy (D κ) (T′.the-copy (namedLft 1 0 tt (κ, tt))) 𝓤 H A W .twice d (T′.lowered d ∷ [])) $ split ! $
+      use1 W (given (T′.lowered d ∷ [] ≡ T′.lowered d ∷ []) (‵ (all-own (D κ .parts) (L κ) (fields d)))) (own-open 𝓤 H A W (D κ) (L κ) (fields d) (T′.lowered d)) $ learn ! (λ _.
+      use1 W (‵ (ownAt (D κ .parts) (L κ) 0 (d .«data»)) ⊛ ‵ (rest (D κ .parts) (L κ) 0 (fields d))) (own-out 𝓤 H A W (D κ .parts) (L κ) 0 (fields d)) $ split ! $
       -- [what the data own; what the numbers own, which is what a cursor's own; the reader]
-      move ! (1 ∷ []) $ use1 W (‵ (C.the-row .own (cursorOf d) (C′.lowered (cursorOf d) ∷ []))) (own-shut 𝓤 H A W C.the-type C′.the-laws (vd .1)) $
+      move ! (1 ∷ []) $ use1 W (‵ (C.the-row .own (cursorOf d) (C′.lowered (cursorOf d) ∷ []))) (own-shut 𝓤 H A W C.the-type C′.the-laws (fields d .1)) $
       nothing ! $ move ! (1 ∷ 0 ∷ []) $ fjoin ! $ move ! (1 ∷ 0 ∷ []) $ fjoin ! $ done !)
 
-  -- its data and another cursor make the reader moved on
-  pub moved : (c : Cursor) → ent 𝓤 (sep 𝓤 (sem 𝓤 H A (Own κ d)) (sem 𝓤 H A (C.the-row .own c (C′.lowered c ∷ [])))) (sem 𝓤 H A (Own κ (readerAt (d .«data») c)))
-  moved c =
-      qed W (‵ (Own κ d) ∷ ‵ (C.the-row .own c (C′.lowered c ∷ [])) ∷ []) ∵
-      use1 W (given (T′.lowered d ∷ [] ≡ T′.lowered d ∷ []) (‵ (all-own (D .parts) L vd))) (own-open 𝓤 H A W D L vd (T′.lowered d)) $ learn ! (λ _.
-      use1 W (‵ (ownAt (D .parts) L 0 (d .«data»)) ⊛ ‵ (rest (D .parts) L 0 vd)) (own-out 𝓤 H A W (D .parts) L 0 vd) $ split ! $
-      move ! (1 ∷ []) $ drop ! $ move ! (1 ∷ []) $
+  -- data and a cursor make a reader
+  joined : (s : RefT (List ℕ)) (c : Cursor) → ent 𝓤 (sem 𝓤 H A (Both κ s c)) (sem 𝓤 H A (Own κ (readerAt s c)))
+  joined s c =
+      qed W (‵ (Both κ s c) ∷ []) ∵ fsplit ! $ move ! (1 ∷ []) $ fsplit ! $
+      -- [the cursor; nothing; the data]
       use1 W (given (C′.lowered c ∷ [] ≡ C′.lowered c ∷ []) (‵ (all-own (C.the-type .parts) C′.the-laws (c .at, (c .left, (c .byte, tt)))))) (own-open 𝓤 H A W C.the-type C′.the-laws (c .at, (c .left, (c .byte, tt))) (C′.lowered c)) $ learn ! (λ _.
-      move ! (1 ∷ 0 ∷ []) $ fjoin ! $ by ! (own-shut 𝓤 H A W D L (d .«data», (c .at, (c .left, (c .byte, tt)))))))
+      move ! (1 ∷ []) $ drop ! $ move ! (1 ∷ 0 ∷ []) $ fjoin ! $ by ! (own-shut 𝓤 H A W (D κ) (L κ) (fields (readerAt s c))))
 
 -- what a callee is passed, beside the lifetime's token
 module _ {M : Type 1} (𝓤 : URA M) (H : Heap 𝓤) (A : Atoms 𝓤) (W : Given 𝓤 H A) (κ : Lft) (q : Share) where
@@ -121,21 +116,8 @@ module _ {M : Type 1} (𝓤 : URA M) (H : Heap 𝓤) (A : Atoms 𝓤) (W : Given
       move ! (1 ∷ []) $ fsplit ! $ move ! (1 ∷ []) $ drop ! $ use1 W (‵ (Both κ (d .«data») (cursorOf d)) ⊛ ‵ (Own κ d)) (apart 𝓤 H A W κ d) $ split ! $
       move ! (2 ∷ 0 ∷ []) $ use2 W (raw (sep 𝓤 (Two (d .«data») (cursorOf d)) (emp 𝓤))) (asks-two (d .«data») (cursorOf d)) $ frame ! $ done !
 
-  -- data and a cursor that were passed are passed on, and are kept
-  pub passes : (s : RefT (List ℕ)) (c : Cursor) → ent 𝓤 (Two s c) (sep 𝓤 (sep 𝓤 (Two s c) (emp 𝓤)) (sem 𝓤 H A (Both κ s c)))
-  passes s c =
+  -- data and a cursor that were passed make a reader, and are kept
+  pub holds : (s : RefT (List ℕ)) (c : Cursor) → ent 𝓤 (Two s c) (sep 𝓤 (sem 𝓤 H A (Own κ (readerAt s c))) (sep 𝓤 Tokens (sem 𝓤 H A (Both κ s c))))
+  holds s c =
       qed W ((‵ (flft κ q) ⊛ ‵ ftrue) ∷ ‵ (Both κ s c) ∷ []) ∵ move ! (1 ∷ []) $ use1 W (‵ (Both κ s c) ⊛ ‵ (Both κ s c)) (twice 𝓤 H A W κ s c) $ split ! $
-      move ! (2 ∷ 0 ∷ []) $ use2 W (raw (sep 𝓤 (Two s c) (emp 𝓤))) (asks-two s c) $ frame ! $ done !
-
--- ---- what the contracts come to
-
--- a reader just made stands for data of which nothing was read
-pub fresh : (bytes : List ℕ) → sourceOf bytes unread ≡ start bytes
-unfolding sourceOf highs
-fresh bytes = refl
-
--- moved on to the cursor that `next_bit` answers, it stands for what is left after the bit
-pub moved-on : (d : BitReader) (b : Bool) (c : Cursor) → takenOf (now (d .«data»)) (Bit b c) ≡ takeBit (sourceOf (now (d .«data»)) (cursorOf d))
-    → takeBit (sourceOf (now (d .«data»)) (cursorOf d)) ≡ got b (sourceOf (now (readerAt (d .«data») c .«data»)) (cursorOf (readerAt (d .«data») c)))
-unfolding takenOf
-moved-on d b c e = sym e
+      use1 W (‵ (Own κ (readerAt s c))) (joined 𝓤 H A W κ s c) $ move ! (0 ∷ 2 ∷ 1 ∷ []) $ done !

@@ -14,7 +14,7 @@ use lib.Seq.{sets, sets-eq}
 use borrow.Author.Tests.{eq-eqb, ne-eqb}
 use Rattle.bit_rules.specs.Digits.{bin}
 use Rattle.bit_rules.specs.Pack.{stuffed, padded, packed, bytesOf}
-use Rattle.bits.specs.Code.{Sound, Written, finishing, Puts, Ends}
+use Rattle.bits.specs.Code.{Sound, newPutter, Written, finishing, Puts, Ends}
 use Rattle.bits.specs.declared.Putter.{Putter}
 use Rattle.bits.proofs.Taking.{moved-up}
 
@@ -135,12 +135,8 @@ module _ {before : List ℕ} {p : Putter} where
 
 -- ---- for callers
 
--- a putter that has put nothing
-abbrev pub fresh : Putter
-fresh = record { at = 0; held = 0; room = 7 }
-
-pub fresh-sound : Sound fresh
-fresh-sound = record { room = omega arith; held = omega arith }
+pub new-sound : Sound newPutter
+new-sound = record { room = omega arith; held = omega arith }
 
 pub puts-none : {before : List ℕ} {p : Putter} → Sound p → Puts before before p p []
 puts-none s = record { same = λ more. refl; sound = s; near = omega arith }
@@ -153,9 +149,9 @@ puts-then {a} {b} {c} {p} {q} {r} {xs} {ys} f g = record {
 }
 
 -- all bits were put and the last byte padded: the bytes stand in memory as far as they fit, and are counted
-module _ {before after last : List ℕ} {p : Putter} {bits : List Bool} {count : ℕ} (f : Puts before after fresh p bits) (e : Ends after last p count) where
-  whole : record { memory = last; count = count } ≡ finishing before fresh bits
-  whole = e .same ∙ f .same [] ∙ ap (finishing before fresh) (append-nil bits)
+module _ {before after last : List ℕ} {p : Putter} {bits : List Bool} {count : ℕ} (f : Puts before after newPutter p bits) (e : Ends after last p count) where
+  whole : record { memory = last; count = count } ≡ finishing before newPutter bits
+  whole = e .same ∙ f .same [] ∙ ap (finishing before newPutter) (append-nil bits)
 
   pub all-counted : count ≡ length (bytesOf bits)
   unfolding finishing

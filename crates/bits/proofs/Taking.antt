@@ -13,13 +13,18 @@ use borrow.Author.Tests.{eq-eqb, ne-eqb}
 use Rattle.laws.specs.Index.{every}
 use Rattle.laws.proofs.Lists.{each}
 use Rattle.bit_rules.specs.Digits.{digits}
-use Rattle.bit_rules.specs.Source.{stopped, stop, takeBit, takeFrom, nextByte, afterFF, opened, none, onlyPadding}
-use Rattle.bits.specs.Code.{highs, topOf, takenOf, sourceOf}
+use Rattle.bit_rules.specs.Source.{start, stopped, stop, takeBit, takeFrom, nextByte, afterFF, opened, none, onlyPadding}
+use Rattle.bits.specs.Code.{highs, topOf, unread, takenOf, sourceOf}
 use Rattle.bits.specs.declared.Cursor.{Cursor}
 
 -- the code's mask and shift
 pub moved-up : (byte : ℕ) → bitAnd byte 127 * 2 % 256 ≡ byte % 128 * 2
 moved-up byte = let e : bitAnd byte 127 ≡ byte % 128 = and-mask byte 7 in omega arith
+
+-- the unread cursor stands for data of which nothing was read
+pub start-source : (bytes : List ℕ) → sourceOf bytes unread ≡ start bytes
+unfolding sourceOf highs
+start-source bytes = refl
 
 -- ---- the bits of a byte from the top are its digits: one test over all bytes
 

@@ -6,12 +6,12 @@ use Prim.Native.Nat.{ℕ, zero, suc, _+_, _-_, _*_, _/_, _%_, _^_, _≤_, _<_}
 use lib.Dec.{eqb}
 use lib.ListN.{length, drop}
 use lib.Seq.{sets}
-use Rattle.bit_rules.specs.Source.{Source, source, Out, got, stopped, stop}
+use Rattle.bit_rules.specs.Source.{Source, source, Out, got, stopped}
 use Rattle.bit_rules.specs.Pack.{packed}
 use Rattle.bits.specs.declared.Cursor.{Cursor}
 use Rattle.bits.specs.declared.Putter.{Putter}
 use Rattle.bits.specs.declared.Taken.{Taken}
-use Rattle.bits.specs.declared.Taken.the-variants.{Bit, Ended, Marker}
+use Rattle.bits.specs.declared.Taken.the-variants.{Bit, Stopped}
 
 -- ---- the taker
 
@@ -24,11 +24,14 @@ highs (suc n) byte = eqb (byte / 128) 1 ∷ highs n (byte % 128 * 2)
 unfoldable pub sourceOf : List ℕ → Cursor → Source
 sourceOf bytes c = source (highs (c .left) (c .byte)) (drop (c .at) bytes) (c .at)
 
+-- nothing was read
+abbrev pub unread : Cursor
+unread = record { at = 0; left = 0; byte = 0 }
+
 -- N15: what the code's answer stands for
 unfoldable pub takenOf : List ℕ → Taken → Out Bool
 takenOf bytes (Bit b c) = got b (sourceOf bytes c)
-takenOf bytes Ended = stopped (stop 12)
-takenOf bytes Marker = stopped (stop 13)
+takenOf bytes (Stopped x) = stopped x
 
 -- the highest bit of a byte, and the byte moved up by one
 unfoldable pub topOf : ℕ → ℕ → ℕ → Taken
@@ -40,6 +43,10 @@ topOf at left byte = Bit (eqb (byte / 128) 1) (record { at = at; left = left; by
 pub record Sound (p : Putter) : Type 0 where
   pub room : p .room ≤ 7
   pub held : p .held < 2 ^ (7 - p .room)
+
+-- a putter that has put nothing
+abbrev pub newPutter : Putter
+newPutter = record { at = 0; held = 0; room = 7 }
 
 -- what memory and count come to, if these bits follow and the last byte is padded
 pub record Written : Type 0 where

@@ -5,10 +5,6 @@ use denote.Ref.{RefT}
 use Rattle.bits.specs.declared.Cursor.{Cursor}
 use Rattle.bits.specs.declared.reader.BitReader.{BitReader}
 
--- nothing was read
-abbrev pub unread : Cursor
-unread = record { at = 0; left = 0; byte = 0 }
-
 -- the reader that holds these data, at this cursor
 abbrev pub readerAt : RefT (List ℕ) → Cursor → BitReader
 readerAt bytes c = record { «data» = bytes; at = c .at; left = c .left; byte = c .byte }

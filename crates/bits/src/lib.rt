@@ -1,6 +1,7 @@
 // Bits out of coded bytes, and bytes out of bits, highest bit first, with 00 after FF (docs/RULES.md, B1 to B7).
 pub mod reader;
 
+use bit_rules::Stop;
 ghost use mathlib.Core.Path.{_≡_};
 ghost use mathlib.Core.List.{[], _∷_};
 ghost use Prim.Native.Nat.{_+_, _-_, _*_, _%_, _^_, _≤_, _<_};
@@ -19,11 +20,17 @@ pub struct Cursor {
     pub byte: u8,
 }
 
+// A bit and what is left, or why there is none.
 pub enum Taken {
     Bit(bool, Cursor),
-    Ended,
-    Marker,
+    Stopped(Stop),
 }
+
+// "data end early"
+const DATA_END: u32 = 12;
+
+// "FF without 00 after it"
+const BARE_FF: u32 = 13;
 
 // The highest bit of a byte, and the byte moved up by one.
 fn top(at: usize, left: u8, byte: u8) -> Taken
@@ -40,7 +47,7 @@ fn top(at: usize, left: u8, byte: u8) -> Taken
 }
 
 // The next bit. "A byte is read only when a bit of it is needed."
-pub fn take_bit(data: &[u8], c: Cursor) -> Taken
+fn take_bit(data: &[u8], c: Cursor) -> Taken
     ensures { λ r. ⌜ takenOf (now («data» .entry)) r ≡ takeBit (sourceOf (now («data» .entry)) c) ⌝ }
 {
     let at = c.at;
@@ -49,17 +56,17 @@ pub fn take_bit(data: &[u8], c: Cursor) -> Taken
         return top(at, left - 1, c.byte);
     }
     if data.len() <= at {
-        return Taken::Ended;
+        return Taken::Stopped(Stop { number: DATA_END });
     }
     let b = data[at];
     if b != 255 {
         return top(at + 1, 7, b);
     }
     if data.len() <= at + 1 {
-        return Taken::Ended;
+        return Taken::Stopped(Stop { number: DATA_END });
     }
     if data[at + 1] != 0 {
-        return Taken::Marker;
+        return Taken::Stopped(Stop { number: BARE_FF });
     }
     top(at + 2, 7, 255)
 }
@@ -81,7 +88,7 @@ fn ones_left(left: u8, byte: u8) -> bool
 }
 
 // Whether nothing but padding is left.
-pub fn only_padding(data: &[u8], c: Cursor) -> bool
+fn only_padding(data: &[u8], c: Cursor) -> bool
     ensures { λ r. ⌜ r ≡ onlyPadding (sourceOf (now («data» .entry)) c) ⌝ }
 {
     let at = c.at;

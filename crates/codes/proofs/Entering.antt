@@ -13,7 +13,7 @@ use Rattle.laws.specs.First.{firstFail, orHere}
 use Rattle.laws.specs.declared.Found.{Found}
 use Rattle.laws.specs.declared.Found.the-variants.{At, Nothing}
 use Rattle.bit_rules.specs.Digits.{digits}
-use Rattle.bit_rules.specs.Table.{Table, distinct, goodTable}
+use Rattle.bit_rules.specs.Table.{Table, goodTable}
 use Rattle.bit_rules.specs.Write.{placeOf}
 use Rattle.codes.specs.Code.{Assigned, entryOf, Entered, Entries}
 use Rattle.codes.specs.declared.Code.{Code}

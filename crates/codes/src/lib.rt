@@ -11,6 +11,7 @@ use bit_rules::Stop;
 use bits::Cursor;
 use bits::Taken;
 
+// A value and what is left, or why there is none.
 pub enum Coded {
     Value(u8, Cursor),
     Stopped(Stop),
@@ -117,14 +118,13 @@ pub fn take_code(counts: &[u8], values: &[u8], data: &[u8], c: Cursor) -> Coded
     let mut place = 0;
     let mut l = 0;
     while l < counts.len() {
-        let t = bits::take_bit(data, cursor);
+        let t = bits::reader::bit_at(data, cursor);
         match t {
             Taken::Bit(b, next) => {
                 over = 2 * over + (b as usize);
                 cursor = next;
             }
-            Taken::Ended => return Coded::Stopped(Stop { number: 12 }),
-            Taken::Marker => return Coded::Stopped(Stop { number: 13 }),
+            Taken::Stopped(x) => return Coded::Stopped(x),
         }
         let n = wide(counts[l]);
         if over < n {

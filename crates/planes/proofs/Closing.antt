@@ -14,24 +14,24 @@ use Rattle.answers.specs.declared.Outcome.the-variants.{Given, Refused}
 use Rattle.bit_rules.specs.Source.{onlyPadding}
 use Rattle.bits.specs.Code.{sourceOf}
 use Rattle.bits.specs.declared.Cursor.{Cursor}
-use Rattle.plane_rules.specs.Plane.{Plane, read, closed}
+use Rattle.plane_rules.specs.Plane.{Plane, closed}
 use Rattle.planes.specs.Code.{planeOf, Ran, Closes}
 use Rattle.planes.specs.declared.Blocks.{Blocks}
-use Rattle.planes.specs.declared.Blocks.the-variants.{Read, Broken}
+use Rattle.planes.specs.declared.Blocks.the-variants.{Read}
 
 module _ {bytes : List ℕ} {count : ℕ} {ran : Blocks} where
-  pub closes-broken : {r : Refusal} → ran ≡ Broken r → Closes bytes count ran (Refused r)
+  pub closes-refused : {r : Refusal} → ran ≡ Blocks.Refused r → Closes bytes count ran (Refused r)
   unfolding closed planeOf
-  closes-broken e = record { told = λ values n. rw e }
+  closes-refused e = record { told = λ values n. rw e }
 
   module _ {c : Cursor} (e : ran ≡ Read c) where
     pub closes-given : onlyPadding (sourceOf bytes c) ≡ true → Closes bytes count ran (Given count)
     unfolding closed planeOf
     closes-given t = record { told = λ values n. rw (e, t, n) }
 
-    pub closes-left : {o : Outcome} → onlyPadding (sourceOf bytes c) ≡ false → o ≡ Refused (refusal 18 (c .at)) → Closes bytes count ran o
-    unfolding closed planeOf sourceOf
-    closes-left t q = record { told = λ values n. q ∙ sym (ap (λ (r : Blocks). outcomeOf (closed (planeOf bytes values r))) e ∙ rw t) }
+    pub closes-left : {o : Outcome} {seen : ℕ} → onlyPadding (sourceOf bytes c) ≡ false → seen ≡ sourceOf bytes c .seen → o ≡ Refused (refusal 18 seen) → Closes bytes count ran o
+    unfolding closed planeOf
+    closes-left t m q = record { told = λ values n. q ∙ rw (e, t, m) }
 
 -- a plane that was closed well holds its values in front
 kept-values : (bytes : List ℕ) (values before : List ℤ) (r : Blocks) (count : ℕ) → outcomeOf (closed (planeOf bytes values r)) ≡ Given count
@@ -43,7 +43,7 @@ kept-values bytes values before (Read c) count e = go (onlyPadding (sourceOf byt
         → leaves (pos 0) (cond t (given values) (refused (refusal 18 (sourceOf bytes c .seen)))) before ≡ values ++ drop (length values) before
     go true e = refl
     go false e = let z : _≡_ {A = ℕ} 0 1 = cc in let y : ⊥ = omega arith in absurd y
-kept-values bytes values before (Broken r) count e = let z : _≡_ {A = ℕ} 0 1 = cc in let y : ⊥ = omega arith in absurd y
+kept-values bytes values before (Blocks.Refused r) count e = let z : _≡_ {A = ℕ} 0 1 = cc in let y : ⊥ = omega arith in absurd y
 
 pub closing : {bytes : List ℕ} {n : ℕ} {plane : Plane} {before after : List ℤ} {r : Blocks} {o : Outcome} → Ran bytes n plane before after r → n ≤ length after
     → Closes bytes n r o → Tried (pos 0) (closed plane) before after o

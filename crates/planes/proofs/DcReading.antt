@@ -11,13 +11,14 @@ use lib.Seq.{drop-cons, drop-set-lt, take-suc-set}
 use Rattle.laws.proofs.Parts.{drop-later}
 use Rattle.answers.specs.Verdict.{refusal}
 use Rattle.bit_rules.specs.Source.{start, got, stopped, takeBit}
-use Rattle.bits.specs.Code.{sourceOf, highs}
+use Rattle.bits.specs.Code.{unread, sourceOf}
+use Rattle.bits.proofs.Taking.{start-source}
 use Rattle.bit_rules.specs.declared.Stop.{Stop}
 use Rattle.bits.specs.declared.Cursor.{Cursor}
 use Rattle.plane_rules.specs.Plane.{Plane, read, broken, onto}
 use Rattle.plane_rules.specs.Dc.{newDc, dcBlocks}
 use Rattle.planes.specs.Code.{planeOf, Ran}
-use Rattle.planes.specs.declared.Blocks.the-variants.{Read, Broken}
+use Rattle.planes.specs.declared.Blocks.the-variants.{Read, Refused}
 
 pub onto-none : (p : Plane) → onto [] p ≡ p
 unfolding onto
@@ -36,9 +37,8 @@ pub record Now (bytes : List ℕ) (values before now : List ℤ) (c : Cursor) (i
   pub rest : drop i now ≡ drop i before
   pub same : onto (take i now) (dcBlocks i (drop i values) (sourceOf bytes c)) ≡ dcBlocks 0 values (start bytes)
 
-pub now-first : {bytes : List ℕ} {values before : List ℤ} → Now bytes values before before (record { at = 0; left = 0; byte = 0 }) 0
-unfolding sourceOf highs
-now-first = record { within = omega arith; long = refl; rest = refl; same = onto-none _ }
+pub now-first : {bytes : List ℕ} {values before : List ℤ} → Now bytes values before before unread 0
+now-first {bytes} = record { within = omega arith; long = refl; rest = refl; same = rw (start-source bytes) (onto-none _) }
 
 module _ {bytes : List ℕ} {values before now : List ℤ} {c : Cursor} {i : ℕ} (a : Now bytes values before now c i) where
   pub now-end : length values ≤ i → Ran bytes (length values) (dcBlocks 0 values (start bytes)) before now (Read c)
@@ -55,7 +55,7 @@ module _ {bytes : List ℕ} {values before now : List ℤ} {c : Cursor} {i : ℕ
     next : drop i values ≡ getD values i (pos 0) ∷ drop (suc i) values
     next = drop-cons values i (pos 0) h
 
-    pub now-stopped : {x : Stop} → takeBit (sourceOf bytes c) ≡ stopped x → Ran bytes (length values) (dcBlocks 0 values (start bytes)) before now (Broken (refusal (x .number) i))
+    pub now-stopped : {x : Stop} → takeBit (sourceOf bytes c) ≡ stopped x → Ran bytes (length values) (dcBlocks 0 values (start bytes)) before now (Refused (refusal (x .number) i))
     unfolding planeOf dcBlocks onto
     now-stopped e = record {
       same = rw (next, e) at (a .same);

@@ -7,8 +7,7 @@ ghost use lib.ListN.{length};
 ghost use Rattle.answers.specs.Verdict.{Meets, Tried};
 ghost use Rattle.laws.specs.Index.{every};
 ghost use Rattle.bit_rules.specs.Source.{start};
-ghost use Rattle.bits.specs.Code.{Puts};
-ghost use Rattle.bits.proofs.Putting.{fresh};
+ghost use Rattle.bits.specs.Code.{newPutter, Puts};
 ghost use Rattle.plane_rules.specs.Plane.{readable, writable};
 ghost use Rattle.plane_rules.specs.Dc.{newDc, dcBlocks, readDc, dcBit, writeDc};
 ghost use Rattle.planes.specs.Code.{Small, Ran, Closes};
@@ -24,7 +23,7 @@ use levels::Part;
 // What reading the blocks of a plane comes to.
 pub enum Blocks {
     Read(Cursor),
-    Broken(Refusal),
+    Refused(Refusal),
 }
 
 // "new DC = 2c + bit"
@@ -39,7 +38,8 @@ fn new_dc(value: i32, bit: bool) -> i32
 fn read_dc_blocks(data: &[u8], values: &[i32], destination: &mut [i32]) -> Blocks
     requires { ⌜ Small (now values) ⌝ }
     requires { ⌜ length (now values) ≤ length (now destination) ⌝ }
-    ensures { λ r. ⌜ Ran (now («data» .entry)) (length (now (values .entry))) (dcBlocks 0 (now (values .entry)) (start (now («data» .entry)))) (now (destination .entry)) (now (destination .exit)) r ⌝ }
+    ensures { λ r. ⌜ Ran (now («data» .entry)) (length (now (values .entry))) (dcBlocks 0 (now (values .entry)) (start (now («data» .entry))))
+        (now (destination .entry)) (now (destination .exit)) r ⌝ }
 {
     let mut c = Cursor {
         at: 0,
@@ -48,18 +48,14 @@ fn read_dc_blocks(data: &[u8], values: &[i32], destination: &mut [i32]) -> Block
     };
     let mut i = 0;
     while i < values.len() {
-        let t = bits::take_bit(data, c);
+        let t = bits::reader::bit_at(data, c);
         match t {
             Taken::Bit(b, next) => {
                 destination[i] = new_dc(values[i], b);
                 c = next;
             }
-            Taken::Ended => return Blocks::Broken(Refusal {
-                number: 12,
-                place: i,
-            }),
-            Taken::Marker => return Blocks::Broken(Refusal {
-                number: 13,
+            Taken::Stopped(x) => return Blocks::Refused(Refusal {
+                number: x.number,
                 place: i,
             }),
         }
@@ -93,12 +89,13 @@ pub fn close_plane(data: &[u8], count: usize, ran: Blocks) -> Outcome
     ensures { λ r. ⌜ Closes (now («data» .entry)) count ran r ⌝ }
 {
     match ran {
-        Blocks::Broken(r) => Outcome::Refused(r),
+        Blocks::Refused(r) => Outcome::Refused(r),
         Blocks::Read(c) => {
-            if bits::only_padding(data, c) {
+            let e = bits::reader::end_at(data, c);
+            if e.padding {
                 return Outcome::Given(count);
             }
-            answers::refuse(18, c.at)
+            answers::refuse(18, e.seen)
         }
     }
 }
@@ -111,7 +108,8 @@ fn try_read_dc(
     values: &[i32],
     destination: &mut [i32],
 ) -> Outcome
-    ensures { λ r. ⌜ Tried (pos 0) (readDc plane blocks (now (values .entry)) (now («data» .entry)) (length (now (destination .entry)))) (now (destination .entry)) (now (destination .exit)) r ⌝ }
+    ensures { λ r. ⌜ Tried (pos 0) (readDc plane blocks (now (values .entry)) (now («data» .entry)) (length (now (destination .entry))))
+        (now (destination .entry)) (now (destination .exit)) r ⌝ }
 {
     if !readable(plane, blocks) {
         return answers::refuse(20, 0);
@@ -138,7 +136,8 @@ pub fn read_dc(
     values: &[i32],
     destination: &mut [i32],
 ) -> Answer
-    ensures { λ r. ⌜ Meets (pos 0) (readDc plane blocks (now (values .entry)) (now («data» .entry)) (length (now (destination .entry)))) (now (destination .entry)) (now (destination .exit)) r ⌝ }
+    ensures { λ r. ⌜ Meets (pos 0) (readDc plane blocks (now (values .entry)) (now («data» .entry)) (length (now (destination .entry))))
+        (now (destination .entry)) (now (destination .exit)) r ⌝ }
 {
     let o = try_read_dc(plane, blocks, data, values, destination);
     if let Outcome::Refused(_) = o {
@@ -158,7 +157,7 @@ fn dc_bit(value: i32) -> bool
 // The bits of all values.
 fn put_dc_bits(values: &[i32], destination: &mut [u8]) -> Putter
     requires { ⌜ length (now values) ≤ 1024 ⌝ }
-    ensures { λ r. ⌜ Puts (now (destination .entry)) (now (destination .exit)) fresh r (map dcBit (now (values .entry))) ⌝ }
+    ensures { λ r. ⌜ Puts (now (destination .entry)) (now (destination .exit)) newPutter r (map dcBit (now (values .entry))) ⌝ }
 {
     let mut p = Putter {
         at: 0,
@@ -176,7 +175,8 @@ fn put_dc_bits(values: &[i32], destination: &mut [u8]) -> Putter
 
 // The bytes, or the first refusal.
 fn try_write_dc(plane: u32, blocks: usize, values: &[i32], destination: &mut [u8]) -> Outcome
-    ensures { λ r. ⌜ Tried 0 (writeDc plane blocks (now (values .entry)) (length (now (destination .entry)))) (now (destination .entry)) (now (destination .exit)) r ⌝ }
+    ensures { λ r. ⌜ Tried 0 (writeDc plane blocks (now (values .entry)) (length (now (destination .entry))))
+        (now (destination .entry)) (now (destination .exit)) r ⌝ }
 {
     if !writable(plane, blocks) {
         return answers::refuse(20, 0);
@@ -197,7 +197,8 @@ fn try_write_dc(plane: u32, blocks: usize, values: &[i32], destination: &mut [u8
 
 // Plane j of DC values of level j, coded against their halves.
 pub fn write_dc(plane: u32, blocks: usize, values: &[i32], destination: &mut [u8]) -> Answer
-    ensures { λ r. ⌜ Meets 0 (writeDc plane blocks (now (values .entry)) (length (now (destination .entry)))) (now (destination .entry)) (now (destination .exit)) r ⌝ }
+    ensures { λ r. ⌜ Meets 0 (writeDc plane blocks (now (values .entry)) (length (now (destination .entry))))
+        (now (destination .entry)) (now (destination .exit)) r ⌝ }
 {
     let o = try_write_dc(plane, blocks, values, destination);
     if let Outcome::Refused(_) = o {

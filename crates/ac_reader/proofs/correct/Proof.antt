@@ -13,15 +13,11 @@ returns : tie.Need-returns
 unfolding fixedOf fixing takenOf
 returns c =
     let n = rw (toZ-ofZ (c .before .before .before .before .before .before .fits .value)) at (c .corrected .ensures) in
-    rw (sym (c .before .before .before .before .take-bit .ensures) ∙ ap (takenOf _) (c .before .before .t .given .1), back w32 _ (c .corrected .ok), n)
+    rw (sym (c .before .before .before .before .bit-at .ensures) ∙ ap (takenOf _) (c .before .before .t .given .1), back w32 _ (c .corrected .ok), n)
 
 returns-2 : tie.Need-returns-2
 unfolding fixedOf fixing takenOf
-returns-2 c = rw (sym (c .before .before .take-bit .ensures) ∙ ap (takenOf _) (c .enum-told .given .1))
-
-returns-3 : tie.Need-returns-3
-unfolding fixedOf fixing takenOf
-returns-3 c = rw (sym (c .before .before .take-bit .ensures) ∙ ap (takenOf _) (c .enum-told2 .given .1))
+returns-2 c = rw (sym (c .before .before .before .bit-at .ensures) ∙ ap (takenOf _) (c .before .t2 .given .1))
 
 pub correct-spec : {M : Type 1} → statement M
 correct-spec =
@@ -31,7 +27,5 @@ correct-spec =
     (λ c. search needs)
     (λ c κs. search needs)
     (λ c. search needs)
-    (λ c. search needs)
     returns
-    returns-2
-    returns-3)
+    returns-2)

@@ -1,16 +1,12 @@
 -- `ac_reader::read_block` meets its contract: what is left to read, behind the values read so far, is the whole. Assumes nothing.
-use mathlib.Core.Path.{_≡_, sym, ap, _∙_}
+use mathlib.Core.Path.{sym, ap, _∙_}
 use mathlib.Core.Option.{some}
 use Prim.Native.Nat.{_-_}
 use lib.ListN.{length}
-use Rattle.bit_rules.specs.Source.{got}
-use Rattle.bits.specs.Code.{sourceOf}
 use Rattle.bit_rules.specs.Table.{table}
-use Rattle.plane_rules.specs.AcRead.{taskAt}
-use Rattle.ac_tasks.specs.Code.{taskOf, openOf, toldOf, blockOf}
-use Rattle.ac_reader.specs.Walk.{At, Carries, Closes, Steps}
-use Rattle.ac_reader.specs.declared.Step.the-variants.{On, Out}
-use Rattle.ac_reader.proofs.Positions.{at-first, at-untold, at-told, at-end}
+use Rattle.ac_tasks.specs.Code.{taskOf, openOf, askedOf, blockOf}
+use Rattle.ac_reader.specs.Walk.{At}
+use Rattle.ac_reader.proofs.Positions.{at-first, at-asked-stopped, at-asked, at-end}
 use native.Mathlib.Omega.{arith}
 use borrow.Author.Needs.{needs}
 use Rattle.ac_reader.proofs.read_block.Statement.{statement}
@@ -30,16 +26,16 @@ same-length : tie.Need-same-length Inv-loop μ-loop
 same-length c = c .before .before .before .before .before .loop .inv .long ∙ sym (c .before .before .before .before .before .before .before .before .before .pre .1 .1)
 
 returns : tie.Need-returns Inv-loop μ-loop
-unfolding toldOf blockOf
-returns c = at-untold (c .before .before .before .before .before .loop .inv) (c .before .before .before .before .loop-test .taken) (sym (c .before .before .before .task-at .ensures) ∙ ap (toldOf _) (c .before .told .given .1))
+unfolding askedOf blockOf
+returns c = at-asked-stopped (c .before .before .before .before .before .loop .inv) (c .before .before .before .before .loop-test .taken) (sym (c .before .before .before .task-at .ensures) ∙ ap (askedOf _) (c .before .asked .given .1))
 
 -- the block with the task that is open now
-opened : (c : tie.After-told2 Inv-loop μ-loop)
+opened : (c : tie.After-asked2 Inv-loop μ-loop)
     → let at-loop = c .before .before .before .before in
     let a = at-loop .before .before .before .before .args in
-    At (a .«data» .now) (table (a .counts .now) (a .codes .now)) (a .left) (a .values .now) (at-loop .loop .destination) (openOf (a .first)) (some (taskOf (c .told2 .given .0 .0))) (a .c) (c .told2 .given .0 .1 .0) (at-loop .loop .i)
-unfolding toldOf
-opened c = at-told (c .before .before .before .before .loop .inv) (c .before .before .before .loop-test .taken) (sym (c .before .before .task-at .ensures) ∙ ap (toldOf _) (c .told2 .given .1))
+    At (a .«data» .now) (table (a .counts .now) (a .codes .now)) (a .left) (a .values .now) (at-loop .loop .destination) (openOf (a .first)) (some (taskOf (c .asked2 .given .0 .0))) (a .c) (c .asked2 .given .0 .1 .0) (at-loop .loop .i)
+unfolding askedOf
+opened c = at-asked (c .before .before .before .before .loop .inv) (c .before .before .before .loop-test .taken) (sym (c .before .before .task-at .ensures) ∙ ap (askedOf _) (c .asked2 .given .1))
 
 do-job-requires : tie.Need-do-job-requires Inv-loop μ-loop
 do-job-requires c κs =

@@ -9,7 +9,7 @@ use mir.Val.{toZ, ofZ}
 use Rattle.laws.proofs.Integers.{back}
 use Rattle.plane_rules.specs.Task as task
 use Rattle.ac_reader.specs.Walk.{fixedOf, Carries}
-use Rattle.ac_reader.proofs.Positions.{carries-none, carries-end, carries-zero, carries-lost, carries-fixed}
+use Rattle.ac_reader.proofs.Positions.{carries-none, carries-end, carries-zero, carries-stopped, carries-fixed}
 use native.Mathlib.Omega.{arith}
 use borrow.Author.Needs.{needs}
 use Rattle.ac_reader.proofs.rest.Statement.{statement}
@@ -55,7 +55,7 @@ returns c =
     let at-correct = c .before .before .before in
     let at-v = at-correct .before .before in
     let at-loop = at-v .before .before in
-    carries-lost (at-loop .loop .inv .1) (at-v .before .loop-test .taken) (λ e. at-correct .before .if1 .left (ap (ofZ w32) e))
+    carries-stopped (at-loop .loop .inv .1) (at-v .before .loop-test .taken) (λ e. at-correct .before .if1 .left (ap (ofZ w32) e))
     (rw (old at-v) at (sym (at-correct .correct .ensures) ∙ ap (fixedOf _) (c .before .f .given .1)))
 
 slice-set-from-w : tie.Need-slice-set-from-w Inv-loop μ-loop

@@ -1,7 +1,7 @@
 -- `ac_reader::walk` meets its contract: what the block came to from `from` on carries to position i. Assumes nothing.
-use mathlib.Core.Path.{_≡_, refl, sym, ap, _∙_}
+use mathlib.Core.Path.{_≡_, sym, ap, _∙_}
 use mathlib.Core.Option.{some}
-use Prim.Native.Nat.{_+_, _-_, _≤_}
+use Prim.Native.Nat.{_-_, _≤_}
 use lib.IntN.{pos}
 use lib.ListN.{length, getD}
 use mir.Syntax.{w32}
@@ -9,7 +9,7 @@ use mir.Val.{toZ, ofZ}
 use Rattle.laws.proofs.Integers.{back}
 use Rattle.plane_rules.specs.Task as task
 use Rattle.ac_reader.specs.Walk.{aim, fixedOf, Carries}
-use Rattle.ac_reader.proofs.Positions.{carries-none, carries-landed, carries-passed, carries-lost, carries-fixed, carries-past}
+use Rattle.ac_reader.proofs.Positions.{carries-none, carries-landed, carries-passed, carries-stopped, carries-fixed, carries-past}
 use native.Mathlib.Omega.{arith}
 use borrow.Author.Needs.{needs}
 use Rattle.ac_reader.proofs.walk.Statement.{statement}
@@ -86,7 +86,7 @@ returns-2 c =
     let at-correct = c .before .before .before in
     let at-v = at-correct .before .before in
     let at-loop = at-v .before .before in
-    carries-lost (at-loop .loop .inv .2) (at-v .before .loop-test .taken) (λ e. at-correct .before .if1 .left (ap (ofZ w32) e))
+    carries-stopped (at-loop .loop .inv .2) (at-v .before .loop-test .taken) (λ e. at-correct .before .if1 .left (ap (ofZ w32) e))
     (rw (old at-v) at (sym (at-correct .correct .ensures) ∙ ap (fixedOf _) (c .before .f .given .1)))
 
 loop-again-2 : tie.Need-loop-again-2 Inv-loop μ-loop

@@ -2,7 +2,7 @@
 use mathlib.Core.Path.{sym, ap, _∙_}
 use lib.Pow.{pow-pos}
 use Rattle.plane_rules.specs.AcRead.{endRun}
-use Rattle.ac_tasks.specs.Code.{numberOf, toldOf}
+use Rattle.ac_tasks.specs.Code.{numberOf, askedOf}
 use Rattle.ac_tasks.proofs.Numbers.{moved-one, power-small}
 use Rattle.ac_tasks.proofs.Tasks.{run-fits, run-past}
 use native.Mathlib.Omega.{arith}
@@ -19,7 +19,7 @@ sub-t13 : tie.Need-sub-t13
 sub-t13 c = omega (arith, moved-one (c .before .before .before .before .before .before .args .r) (c .before .before .before .before .before .before .pre), pow-pos (c .before .before .before .before .before .before .args .r))
 
 returns : tie.Need-returns
-unfolding endRun toldOf numberOf
+unfolding endRun askedOf numberOf
 returns c =
     let at-t = c .before .before in
     let at-take-number = at-t .before .before in
@@ -28,13 +28,13 @@ returns c =
     rw (sym (at-take-number .take-number .ensures .same) ∙ ap (numberOf _) (at-t .t .given .1), run-fits (a .left) (a .r) (at-t .t .given .0 .0) (at-entry .pre) (c .if1 .taken), moved-one (a .r) (at-entry .pre))
 
 returns-2 : tie.Need-returns-2
-unfolding endRun toldOf numberOf
+unfolding endRun askedOf numberOf
 returns-2 c =
     let a = c .before .before .before .before .before .before .args in
     rw (sym (c .before .before .before .before .take-number .ensures .same) ∙ ap (numberOf _) (c .before .before .t .given .1), run-past (a .left) (a .r) (c .before .before .t .given .0 .0) (c .before .before .before .before .before .before .pre) (c .if1 .left))
 
 returns-3 : tie.Need-returns-3
-unfolding endRun toldOf numberOf
+unfolding endRun askedOf numberOf
 returns-3 c = rw (sym (c .before .before .before .take-number .ensures .same) ∙ ap (numberOf _) (c .before .t2 .given .1))
 
 pub end-run-spec : {M : Type 1} → statement M

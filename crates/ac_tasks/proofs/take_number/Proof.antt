@@ -25,18 +25,16 @@ add-v c = omega (arith, bin-small (c .before .t .given .0 .0), now-small (c .bef
 
 returns : tie.Need-returns Inv-loop μ-loop
 unfolding takenOf
-returns c = now-stopped (c .before .before .before .before .loop .inv) (c .before .before .before .loop-test .taken) (sym (c .before .before .take-bit .ensures) ∙ ap (takenOf _) (c .enum-told .given .1))
-
-returns-2 : tie.Need-returns-2 Inv-loop μ-loop
-unfolding takenOf
-returns-2 c = now-stopped (c .before .before .before .before .loop .inv) (c .before .before .before .loop-test .taken) (sym (c .before .before .take-bit .ensures) ∙ ap (takenOf _) (c .enum-told2 .given .1))
+returns c =
+    let at-bit = c .before .before .before in
+    now-stopped (at-bit .before .before .loop .inv) (at-bit .before .loop-test .taken) (sym (at-bit .bit-at .ensures) ∙ ap (takenOf _) (c .before .t2 .given .1))
 
 loop-again : tie.Need-loop-again Inv-loop μ-loop
 unfolding takenOf
-loop-again c = now-turn (c .before .before .before .before .before .loop .inv) (c .before .before .before .before .loop-test .taken) (sym (c .before .before .before .take-bit .ensures) ∙ ap (takenOf _) (c .before .t .given .1))
+loop-again c = now-turn (c .before .before .before .before .before .loop .inv) (c .before .before .before .before .loop-test .taken) (sym (c .before .before .before .bit-at .ensures) ∙ ap (takenOf _) (c .before .t .given .1))
 
-returns-3 : tie.Need-returns-3 Inv-loop μ-loop
-returns-3 c = now-end (c .before .loop .inv) (c .loop-test .left)
+returns-2 : tie.Need-returns-2 Inv-loop μ-loop
+returns-2 c = now-end (c .before .loop .inv) (c .loop-test .left)
 
 pub take-number-spec : {M : Type 1} → statement M
 take-number-spec =
@@ -53,8 +51,6 @@ take-number-spec =
     (λ c. search needs)
     returns
     (λ c. search needs)
-    returns-2
-    (λ c. search needs)
     (λ c. search needs)
     loop-again
-    returns-3)
+    returns-2)

@@ -26,7 +26,7 @@ loop-holds c = here-first _ (c .before .before .before .pre) _
 took : (c : tie.After-t Inv-loop μ-loop)
     → takeBit (sourceOf (c .before .before .before .before .before .before .before .before .args .«data» .now) (c .before .before .before .before .loop .cursor)) ≡ got (c .t .given .0 .0) (sourceOf (c .before .before .before .before .before .before .before .before .args .«data» .now) (c .t .given .0 .1 .0))
 unfolding takenOf
-took c = sym (c .before .before .take-bit .ensures) ∙ ap (takenOf _) (c .t .given .1)
+took c = sym (c .before .before .bit-at .ensures) ∙ ap (takenOf _) (c .t .given .1)
 
 mul-over : tie.Need-mul-over Inv-loop μ-loop
 mul-over c = omega (arith, here-small (c .before .before .before .before .before .loop .inv) (c .before .before .before .before .before .before .before .before .before .pre) (c .before .before .before .before .loop-test .taken))
@@ -40,25 +40,23 @@ add-over c =
 
 returns : tie.Need-returns Inv-loop μ-loop
 unfolding codedOf takenOf
-returns c = here-stopped (c .before .before .before .before .loop .inv) (c .before .before .before .loop-test .taken) (sym (c .before .before .take-bit .ensures) ∙ ap (takenOf _) (c .enum-told .given .1))
+returns c =
+    let at-bit = c .before .before .before in
+    here-stopped (at-bit .before .before .loop .inv) (at-bit .before .loop-test .taken) (sym (at-bit .bit-at .ensures) ∙ ap (takenOf _) (c .before .t2 .given .1))
 
-returns-2 : tie.Need-returns-2 Inv-loop μ-loop
-unfolding codedOf takenOf
-returns-2 c = here-stopped (c .before .before .before .before .loop .inv) (c .before .before .before .loop-test .taken) (sym (c .before .before .take-bit .ensures) ∙ ap (takenOf _) (c .enum-told2 .given .1))
-
-add-t21 : tie.Need-add-t21 Inv-loop μ-loop
-add-t21 c =
+add-t20 : tie.Need-add-t20 Inv-loop μ-loop
+add-t20 c =
     let b = c .before .before .before .before .before .before .before .before in
     omega (arith, here-room (b .loop .inv) (c .before .before .before .before .before .before .before .loop-test .taken) (took (c .before .before .before .before)) (rw (c .before .wide .ensures .0) at (c .if1 .taken)))
 
-shared-slice-read-t23 : tie.Need-shared-slice-read-t23 Inv-loop μ-loop
-shared-slice-read-t23 c =
+shared-slice-read-t22 : tie.Need-shared-slice-read-t22 Inv-loop μ-loop
+shared-slice-read-t22 c =
     let b = c .before .before .before .before .before .before .before .before .before in
     here-room (b .loop .inv) (c .before .before .before .before .before .before .before .before .loop-test .taken) (took (c .before .before .before .before .before)) (rw (c .before .before .wide .ensures .0) at (c .before .if1 .taken))
 
-returns-3 : tie.Need-returns-3 Inv-loop μ-loop
+returns-2 : tie.Need-returns-2 Inv-loop μ-loop
 unfolding codedOf
-returns-3 c =
+returns-2 c =
     let b = c .before .before .before .before .before .before .before .before .before in
     here-found (b .loop .inv) (c .before .before .before .before .before .before .before .before .loop-test .taken) (took (c .before .before .before .before .before)) (rw (c .before .before .wide .ensures .0) at (c .before .if1 .taken))
 
@@ -67,9 +65,9 @@ loop-again c =
     let b = c .before .before .before .before .before .before .before .before in
     rw (c .before .wide .ensures .0) (here-on (b .loop .inv) (c .before .before .before .before .before .before .before .loop-test .taken) (took (c .before .before .before .before)) (rw (c .before .wide .ensures .0) at (c .if1 .left)))
 
-returns-4 : tie.Need-returns-4 Inv-loop μ-loop
+returns-3 : tie.Need-returns-3 Inv-loop μ-loop
 unfolding codedOf
-returns-4 c = here-none (c .before .loop .inv) (c .loop-test .left)
+returns-3 c = here-none (c .before .loop .inv) (c .loop-test .left)
 
 pub take-code-spec : {M : Type 1} → statement M
 take-code-spec =
@@ -86,14 +84,12 @@ take-code-spec =
     (λ c. search needs)
     returns
     (λ c. search needs)
-    returns-2
-    (λ c. search needs)
     (λ c κs. search needs)
-    add-t21
-    shared-slice-read-t23
-    returns-3
+    add-t20
+    shared-slice-read-t22
+    returns-2
     (λ c. search needs)
     (λ c. search needs)
     (λ c. search needs)
     loop-again
-    returns-4)
+    returns-3)

@@ -6,7 +6,7 @@ use lib.IntN.{pos}
 use lib.ListN.{length, getD, drop, length-map}
 use mir.Syntax.{w32}
 use Rattle.laws.proofs.Integers.{back}
-use Rattle.bits.proofs.Putting.{Going, going-start, fresh-sound}
+use Rattle.bits.proofs.Putting.{Going, going-start, new-sound}
 use Rattle.plane_rules.specs.Dc.{dcBit}
 use Rattle.planes.proofs.DcWriting.{bits-turn, bits-end}
 use borrow.Author.Needs.{needs}
@@ -21,7 +21,7 @@ abbrev μ-loop : tie.MeasureT-loop
 μ-loop values destination₀ p₀ i₀ destination p i = length values - i
 
 loop-holds : tie.Need-loop-holds Inv-loop μ-loop
-loop-holds c = (search needs, refl, going-start fresh-sound)
+loop-holds c = (search needs, refl, going-start new-sound)
 
 put-bit-requires : tie.Need-put-bit-requires Inv-loop μ-loop
 put-bit-requires c κs =

@@ -27,7 +27,7 @@ loop-holds c = now-first
 took : (c : tie.After-t Inv-loop μ-loop)
     → takeBit (sourceOf (c .before .before .before .before .before .before .args .«data» .now) (c .before .before .before .before .loop .c)) ≡ got (c .t .given .0 .0) (sourceOf (c .before .before .before .before .before .before .args .«data» .now) (c .t .given .0 .1 .0))
 unfolding takenOf
-took c = sym (c .before .before .take-bit .ensures) ∙ ap (takenOf _) (c .t .given .1)
+took c = sym (c .before .before .bit-at .ensures) ∙ ap (takenOf _) (c .t .given .1)
 
 -- the old value, as the code reads it
 old : (c : tie.After-new-dc-arg Inv-loop μ-loop)
@@ -38,18 +38,13 @@ new-dc-requires : tie.Need-new-dc-requires Inv-loop μ-loop
 new-dc-requires c κs = rw (old c) (c .before .before .before .before .before .before .before .before .pre .0 _)
 
 same-length : tie.Need-same-length Inv-loop μ-loop
-same-length c = c .before .before .before .before .loop .inv .long
+same-length c = c .before .before .before .before .before .loop .inv .long
 
 returns : tie.Need-returns Inv-loop μ-loop
 unfolding takenOf
-returns c = now-stopped (c .before .before .before .before .loop .inv) (c .before .before .before .loop-test .taken) (sym (c .before .before .take-bit .ensures) ∙ ap (takenOf _) (c .enum-told .given .1))
-
-same-length-2 : tie.Need-same-length-2 Inv-loop μ-loop
-same-length-2 c = c .before .before .before .before .loop .inv .long
-
-returns-2 : tie.Need-returns-2 Inv-loop μ-loop
-unfolding takenOf
-returns-2 c = now-stopped (c .before .before .before .before .loop .inv) (c .before .before .before .loop-test .taken) (sym (c .before .before .take-bit .ensures) ∙ ap (takenOf _) (c .enum-told2 .given .1))
+returns c =
+    let at-bit = c .before .before .before in
+    now-stopped (at-bit .before .before .loop .inv) (at-bit .before .loop-test .taken) (sym (at-bit .bit-at .ensures) ∙ ap (takenOf _) (c .before .t2 .given .1))
 
 -- the new value, as it is stored
 stored : (c : tie.After-new-dc Inv-loop μ-loop)
@@ -61,11 +56,11 @@ loop-again c =
     let b = c .before .before .before .before .before .before in
     now-turn (b .before .loop .inv) (b .loop-test .taken) (took (c .before .before .before)) (stored c) (b .before .before .before .pre .1)
 
-same-length-3 : tie.Need-same-length-3 Inv-loop μ-loop
-same-length-3 c = c .before .loop .inv .long
+same-length-2 : tie.Need-same-length-2 Inv-loop μ-loop
+same-length-2 c = c .before .loop .inv .long
 
-returns-3 : tie.Need-returns-3 Inv-loop μ-loop
-returns-3 c = now-end (c .before .loop .inv) (c .loop-test .left)
+returns-2 : tie.Need-returns-2 Inv-loop μ-loop
+returns-2 c = now-end (c .before .loop .inv) (c .loop-test .left)
 
 pub read-dc-blocks-spec : {M : Type 1} → statement M
 read-dc-blocks-spec =
@@ -85,10 +80,7 @@ read-dc-blocks-spec =
     same-length
     returns
     (λ c. search needs)
-    same-length-2
-    returns-2
-    (λ c. search needs)
     (λ c. search needs)
     loop-again
-    same-length-3
-    returns-3)
+    same-length-2
+    returns-2)
