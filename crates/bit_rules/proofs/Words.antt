@@ -226,6 +226,6 @@ module _ (T : Table) (g : goodTable T ≡ true) where
   by-words = record {
     read = λ v s t e. let r = read-word T g v s t e in (r .0, r .1);
     reads = λ v s t h. code-trip T v (h .0 .0) s t g (h .0 .1) (h .1);
-    none = none-read;
-    nones = none-reads;
+    missed = none-read;
+    misses = none-reads;
   }

@@ -14,7 +14,7 @@ use Rattle.bit_rules.specs.Source.{Source, start, Out, got, stopped, opened, af
 use Rattle.bit_rules.specs.Reader.{Reader, andThen}
 use Rattle.bit_rules.specs.declared.Stop.{Stop}
 use Rattle.bit_rules.specs.Table.{Table}
-use Rattle.plane_rules.specs.Plane.{Plane, read, broken, onto, inBlock}
+use Rattle.plane_rules.specs.Plane.{Plane, read, refusing, onto, inBlock}
 use Rattle.plane_rules.specs.Dc.{newDc, dcBlocks}
 use Rattle.plane_rules.specs.Task.{Task, walk, ended, atZero}
 use Rattle.plane_rules.specs.AcRead.{taskAt, corrected, position, blockEnd, acBlock, cut, acBlocks}
@@ -62,8 +62,8 @@ next-bit s b t e = bit-from (s .pending) (s .coming) (s .seen) b t e
 
 -- ---- a plane that was read
 
-pub broken-read : {r : Refusal} {ys : List ℤ} {t : Source} → broken r ≡ read ys t → ⊥
-broken-read e = let z : _≡_ {A = ℕ} 0 1 = cc in omega arith
+pub refusing-read : {r : Refusal} {ys : List ℤ} {t : Source} → refusing r ≡ read ys t → ⊥
+refusing-read e = let z : _≡_ {A = ℕ} 0 1 = cc in omega arith
 
 -- values in front of those that follow
 pub record Fronted (values ys : List ℤ) (p : Plane) (t : Source) : Type 0 where
@@ -77,7 +77,7 @@ fronted values ys (read more s) t e =
     let q : values ++ more ≡ ys = cc in
     let r : s ≡ t = cc in
     record { rest = more; after = ap (read more) r; whole = sym q }
-fronted values ys (broken r) t e = absurd (broken-read e)
+fronted values ys (refusing r) t e = absurd (refusing-read e)
 
 -- ---- DC
 
@@ -96,7 +96,7 @@ dc-each (v ∷ values) k s ys t e b h = go (dc-each values (suc k)) (takeBit s) 
     go : ((s : Source) (ys : List ℤ) (t : Source) → dcBlocks (suc k) values s ≡ read ys t → (b : ℕ) → b < length values → getD ys b (pos 0) ≡ newDc (getD values b (pos 0)) (getD (bitsLeft s) b false))
         → (o : Out Bool) → takeBit s ≡ o → inBlock k (λ b t. onto (newDc v b ∷ []) (dcBlocks (suc k) values t)) o ≡ read ys t
         → (b : ℕ) → b < suc (length values) → getD ys b (pos 0) ≡ newDc (getD (v ∷ values) b (pos 0)) (getD (bitsLeft s) b false)
-    go ih (stopped x) q e b h = absurd (broken-read e)
+    go ih (stopped x) q e b h = absurd (refusing-read e)
     go ih (got c u) q e b h =
         let f = fronted (newDc v c ∷ []) ys (dcBlocks (suc k) values u) t e in
         at c u (f .rest) (f .whole) (next-bit s c u q) (ih u (f .rest) t (f .after)) b h
@@ -179,7 +179,7 @@ module _ (codes : Table) where
       go : ((o : Option Task) (s : Source) (ys : List ℤ) (t : Source) → acBlocks codes (suc k) o bs s ≡ read ys t → map (towardZero 1) ys ≡ together bs)
           → (x : Out (List ℤ × Option Task)) → acBlock codes (suc (length bs)) o b s ≡ x
           → inBlock k (λ r t. onto (r .0) (acBlocks codes (suc k) (r .1) bs t)) x ≡ read ys t → map (towardZero 1) ys ≡ b ++ together bs
-      go ih (stopped x) q e = absurd (broken-read e)
+      go ih (stopped x) q e = absurd (refusing-read e)
       go ih (got r u) q e =
           let f = fronted (r .0) ys (acBlocks codes (suc k) (r .1) bs u) t e in
           rw (f .whole) (map-append (towardZero 1) (r .0) (f .rest) ∙ rw (half-block (suc (length bs)) b o s r u q, ih (r .1) u (f .rest) t (f .after)))

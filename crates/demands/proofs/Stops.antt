@@ -17,7 +17,7 @@ use Rattle.bit_rules.specs.Source.{Source, Out, got, stopped, opened, afterFF, 
 use Rattle.bit_rules.specs.Reader.{Reader, andThen}
 use Rattle.bit_rules.specs.Table.{Table}
 use Rattle.bit_rules.specs.Read.{codeFrom, takeCode}
-use Rattle.plane_rules.specs.Plane.{Plane, read, broken, onto, inBlock, closed}
+use Rattle.plane_rules.specs.Plane.{Plane, read, refusing, onto, inBlock, closed}
 use Rattle.plane_rules.specs.Dc.{newDc, dcBlocks}
 use Rattle.plane_rules.specs.Task.{Task, walk, ended}
 use Rattle.plane_rules.specs.AcRead.{takeNumber, endRun, meaning, taskAt, position, blockEnd, acBlock, cut, acBlocks}
@@ -123,12 +123,12 @@ module _ (P : ℕ → Type 0) (all : ℕ) where
 
   abbrev pub Blocks : ℕ → ℕ → Plane → Type 0
   Blocks upto n (read values s) = (length values ≡ n) × Kept s
-  Blocks upto n (broken r) = P (r .number) × (r .place < upto)
+  Blocks upto n (refusing r) = P (r .number) × (r .place < upto)
 
   in-front : (upto n m : ℕ) (values : List ℤ) (p : Plane) → length values + n ≡ m → Blocks upto n p → Blocks upto m (onto values p)
   unfolding onto
   in-front upto n m values (read more s) e h = (length-append values more ∙ omega (arith, h .0), h .1)
-  in-front upto n m values (broken r) e h = h
+  in-front upto n m values (refusing r) e h = h
 
   in-block : {A : Type 0} (Q : A → Type 0) (upto n block : ℕ) (next : A → Source → Plane) (o : Out A) → block < upto → Stops Q o
       → ((a : A) → Q a → (s : Source) → Kept s → Blocks upto n (next a s)) → Blocks upto n (inBlock block next o)
@@ -168,7 +168,7 @@ module _ {A B : Type 0} (one : A → B → List B → Source → Out A) (o₀ : 
   closed-judged (read values s) l h f g f′ g′ =
       passed (λ m q k. over-halted (g m q (k .1)))
       (padded values s (omega (arith, h .0)) (f′ s refl) (λ q k. over-one (g′ q k)) (onlyPadding s) refl)
-  closed-judged (broken r) l h f g f′ g′ = told r (h .0, f r refl) (λ m q k. halted-one (g m q (k .1)))
+  closed-judged (refusing r) l h f g f′ g′ = told r (h .0, f r refl) (λ m q k. halted-one (g m q (k .1)))
 
 -- ---- blocks of 63 values
 

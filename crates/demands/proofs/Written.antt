@@ -18,7 +18,7 @@ use Rattle.plane_rules.specs.AcRead.{taskAt, position, blockEnd, acBlock, acBlo
 use Rattle.plane_rules.specs.AcWrite.{acHalf, Kind, keep, still, fresh, kindOf, oneMore, ahead, unlessNew, quiet, planned, plan, writeBlock}
 use Rattle.plane_rules.specs.Levels.{towardZero}
 use Rattle.demands.specs.Written.{together, LongestRun, marks, EndsAtOnce, NewValueLater, SixteenBeforeNew}
-use Rattle.demands.proofs.Planes.{got-both, broken-read, fronted, came, half-block}
+use Rattle.demands.proofs.Planes.{got-both, refusing-read, fronted, came, half-block}
 
 -- ---- what an end run leaves: no new value
 
@@ -85,7 +85,7 @@ module _ (T : Table) where
           → (x : Out (List ℤ × Option Task)) → acBlock T (suc (length (map (map acHalf) bs))) (some (ended n)) (map acHalf b) s ≡ x
           → inBlock k (λ r t. onto (r .0) (acBlocks T (suc k) (r .1) (map (map acHalf) bs) t)) x ≡ read (b ++ together bs) t
           → suc n ≤ unlessNew (ahead (map kindOf b)) (quiet (map (map kindOf) bs))
-      go ih (stopped x) q e = absurd (broken-read e)
+      go ih (stopped x) q e = absurd (refusing-read e)
       go ih (got r u) q e =
           let f = fronted (r .0) (b ++ together bs) (acBlocks T (suc k) (r .1) (map (map acHalf) bs) u) t e in
           let half : map (towardZero 1) (r .0) ≡ map acHalf b = half-block T _ (map acHalf b) (some (ended n)) s r u q in

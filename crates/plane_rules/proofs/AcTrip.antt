@@ -27,7 +27,7 @@ use Rattle.plane_rules.specs.Levels.{towardZero, atLevel}
 use Rattle.plane_rules.proofs.Ranges.{ranged}
 use Rattle.plane_rules.proofs.Closing.{closed-well}
 use Rattle.plane_rules.proofs.Levels.{in-range, half-in, Halving, halves-inside, level-full, level-half, level-inside}
-use Rattle.plane_rules.proofs.AcTokens.{spelled-says, joined, blocks-back}
+use Rattle.plane_rules.proofs.AcTokens.{spelled-gives, joined, blocks-back}
 
 -- ---- one plane
 
@@ -118,7 +118,7 @@ ac-trip plane blocks T values room space bytes w h =
     let s : Source = start (acBytes blocks T values) in
     let u : Source = source (replicate (says .0) true) [] (0 + length (acBytes blocks T values)) in
     let b : acBlocks T 0 none (map (map acHalf) (cut blocks values)) s ≡ read (joined (cut blocks values)) u =
-    blocks-back T 0 (cut blocks values) none s u tt (omega (arith, length-cut blocks values, p .few)) (spelled-says T (W .table) ws s u (W .codes) (says .2)) in
+    blocks-back T 0 (cut blocks values) none s u tt (omega (arith, length-cut blocks values, p .few)) (spelled-gives T (W .table) ws s u (W .codes) (says .2)) in
     let c : closed (acBlocks T 0 none (cut blocks (map acHalf values)) s) ≡ given values =
     rw (cut-map acHalf blocks values) (closed-well values (says .0) (0 + length (acBytes blocks T values)) _ (b ∙ ap (λ (l : List ℤ). read l u) (joined-cut blocks values (W .count)))) in
     let l : eqb (length (map acHalf values)) (63 * blocks) ≡ true = eq-eqb (length (map acHalf values)) (63 * blocks) (length-map values acHalf ∙ W .count) in

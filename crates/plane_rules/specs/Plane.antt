@@ -19,19 +19,19 @@ writable plane blocks = leb 1 plane ∷ leb plane 4 ∷ leb blocks 1024 ∷ []
 -- what reading the blocks comes to: the values and the data left, or a refusal
 pub data Plane : Type 0 where
   read : List ℤ → Source → Plane
-  broken : Refusal → Plane
+  refusing : Refusal → Plane
 
 -- values in front of those that follow
 unfoldable pub onto : List ℤ → Plane → Plane
 onto values (read more s) = read (values ++ more) s
-onto values (broken r) = broken r
+onto values (refusing r) = refusing r
 
 -- one block was read, and `next` reads on; or it was not, and its number is the place
 abbrev pub inBlock : {A : Type 0} → ℕ → (A → Source → Plane) → Out A → Plane
 inBlock block next (got a s) = next a s
-inBlock block next (stopped x) = broken (refusal (x .number) block)
+inBlock block next (stopped x) = refusing (refusal (x .number) block)
 
 -- "After the last block the unread bits of the byte must be ones and no byte may follow": else 18, "bytes read"
 unfoldable pub closed : Plane → Verdict ℤ
 closed (read values s) = need (onlyPadding s) 18 (s .seen) (given values)
-closed (broken r) = refused r
+closed (refusing r) = refused r

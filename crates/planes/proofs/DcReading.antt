@@ -14,7 +14,7 @@ use Rattle.bit_rules.specs.Source.{start, got, stopped, takeBit}
 use Rattle.bits.specs.Code.{sourceOf, highs}
 use Rattle.bit_rules.specs.declared.Stop.{Stop}
 use Rattle.bits.specs.declared.Cursor.{Cursor}
-use Rattle.plane_rules.specs.Plane.{Plane, read, broken, onto}
+use Rattle.plane_rules.specs.Plane.{Plane, read, refusing, onto}
 use Rattle.plane_rules.specs.Dc.{newDc, dcBlocks}
 use Rattle.planes.specs.Code.{planeOf, Ran}
 use Rattle.planes.specs.declared.Blocks.the-variants.{Read, Broken}
@@ -22,12 +22,12 @@ use Rattle.planes.specs.declared.Blocks.the-variants.{Read, Broken}
 pub onto-none : (p : Plane) → onto [] p ≡ p
 unfolding onto
 onto-none (read vs s) = refl
-onto-none (broken r) = refl
+onto-none (refusing r) = refl
 
 pub onto-onto : (vs ws : List ℤ) (p : Plane) → onto vs (onto ws p) ≡ onto (vs ++ ws) p
 unfolding onto
 onto-onto vs ws (read us s) = ap (λ (l : List ℤ). read l s) (sym (append-assoc vs ws us))
-onto-onto vs ws (broken r) = refl
+onto-onto vs ws (refusing r) = refl
 
 -- behind i blocks
 pub record Now (bytes : List ℕ) (values before now : List ℤ) (c : Cursor) (i : ℕ) : Type 0 where
