@@ -23,6 +23,7 @@ use Rattle.bit_rules.proofs.CodeTrip.{bin-odd, halve, code-trip}
 use Rattle.plane_rules.specs.Plane.{read, onto}
 use Rattle.plane_rules.specs.Task.{Task, walk, ended, unit, atZero}
 use Rattle.plane_rules.specs.AcRead.{takeNumber, endRun, meaning, taskAt, position, blockEnd, acBlock, acBlocks}
+use Rattle.plane_rules.proofs.Halves.{kind-zero, kind-one, kind-minus-one, kind-up, kind-down}
 use Rattle.plane_rules.specs.AcWrite.{acHalf, Kind, keep, still, fresh, kindOf, oneMore, ahead, unlessNew, quiet, planned, plan, Token, code, raw, order, class, emit, mark, after, writeBlock, writeBlocks, orElse, lacking, spelled}
 
 -- ---- tokens
@@ -77,12 +78,12 @@ kept-neg t n s u e =
     rw (half-two n, e, q)
 
 position-back : (T : Table) (t : Task) (x : ℤ) (s u : Source) → Agrees t (kindOf x) → GivesTokens T s (mark (kindOf x)) u → position t (acHalf x) s ≡ got (x, after t (kindOf x)) u
-unfolding position kindOf acHalf
-position-back T t (pos zero) s u a h = rw (a, h)
-position-back T t (pos (suc zero)) s u a h = rw (a, h)
-position-back T t (pos (suc (suc n))) s u a h = kept-pos t n s u (rw (h .2) at (h .1))
-position-back T t (negsuc zero) s u a h = rw (a, h)
-position-back T t (negsuc (suc n)) s u a h = kept-neg t n s u (rw (h .2) at (h .1))
+unfolding position acHalf
+position-back T t (pos zero) s u a h = rw (kind-zero, rw kind-zero at a, rw kind-zero at h)
+position-back T t (pos (suc zero)) s u a h = rw (kind-one, rw kind-one at a, rw kind-one at h)
+position-back T t (pos (suc (suc n))) s u a h = let m = rw (kind-up n) at h in rw (kind-up n) (kept-pos t n s u (rw (m .2) at (m .1)))
+position-back T t (negsuc zero) s u a h = rw (kind-minus-one, rw kind-minus-one at a, rw kind-minus-one at h)
+position-back T t (negsuc (suc n)) s u a h = let m = rw (kind-down n) at h in rw (kind-down n) (kept-neg t n s u (rw (m .2) at (m .1)))
 
 -- ---- the rest of a block
 

@@ -24,6 +24,7 @@ use Rattle.plane_rules.specs.Plane.{readable, writable, read, onto, clos
 use Rattle.plane_rules.specs.Dc.{newDc, dcBlocks, readDc, dcHalf, dcBit, dcBytes, writeDc}
 use Rattle.plane_rules.specs.Levels.{downward, atLevel, accepted, climb}
 use Rattle.plane_rules.proofs.Ranges.{ranged, in-range, may-write, may-read}
+use Rattle.plane_rules.proofs.Halves.{bit-up, bit-down}
 use Rattle.plane_rules.proofs.Closing.{closed-well}
 use Rattle.plane_rules.proofs.Levels.{half-in, Halving, halves-inside, level-full, level-half, level-inside, climbed}
 
@@ -51,9 +52,9 @@ twice q b =
 
 -- twice the half and the bit are the value
 new-back : (x : ℤ) → newDc (dcHalf x) (dcBit x) ≡ x
-unfolding newDc dcHalf dcBit
-new-back (pos n) = ap pos (omega (arith, bin-odd n))
-new-back (negsuc n) = twice (n / 2) (not (odd n)) ∙ ap negsuc (omega (arith, bin-not n))
+unfolding newDc dcHalf
+new-back (pos n) = rw (bit-up n) (ap pos (omega (arith, bin-odd n)))
+new-back (negsuc n) = rw (bit-down n) (twice (n / 2) (not (odd n)) ∙ ap negsuc (omega (arith, bin-not n)))
 
 pub dc-halving : Halving Dc dcHalf downward
 unfolding dcHalf downward inLevel isDc

@@ -5,5 +5,6 @@ pub mod AcTokens
 pub mod Levels
 pub mod Closing
 pub mod Ranges
+pub mod Halves
 pub mod DcTrip
 pub mod Cases

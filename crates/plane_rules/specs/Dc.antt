@@ -1,15 +1,16 @@
 -- DC planes, read and written (01: "A DC plane is one bit per block: new DC = 2c + bit. Its calls need no table.").
-use mathlib.Core.Bool.{Bool, not}
+use mathlib.Core.Bool.{Bool}
 use mathlib.Core.List.{List, [], _∷_, map}
 use Prim.Native.Nat.{ℕ, suc, _-_, _/_}
 use lib.Dec.{eqb, leb}
 use lib.IntN.{ℤ, pos, negsuc, _+ℤ_, _*ℤ_}
 use lib.ListN.{length}
+use lib.Signed.{ltZ}
 use Rattle.laws.specs.Index.{every}
 use Rattle.answers.specs.Verdict.{Verdict, need, unless, fitting}
 use Rattle.levels.specs.Level.{firstOutside}
 use Rattle.levels.specs.declared.Part.the-variants.{Dc}
-use Rattle.bit_rules.specs.Digits.{bin, odd}
+use Rattle.bit_rules.specs.Digits.{bin}
 use Rattle.bit_rules.specs.Source.{Source, start, takeBit}
 use Rattle.bit_rules.specs.Pack.{bytesOf}
 use Rattle.plane_rules.specs.Plane.{readable, writable, Plane, read, onto, inBlock, closed}
@@ -37,10 +38,9 @@ unfoldable pub dcHalf : ℤ → ℤ
 dcHalf (pos n) = pos (n / 2)
 dcHalf (negsuc n) = negsuc (n / 2)
 
--- what a value is more than twice its half
+-- whether a value is more than twice its half
 unfoldable pub dcBit : ℤ → Bool
-dcBit (pos n) = odd n
-dcBit (negsuc n) = not (odd n)
+dcBit value = ltZ (pos 2 *ℤ dcHalf value) value
 
 abbrev pub dcBytes : List ℤ → List ℕ
 dcBytes values = bytesOf (map dcBit values)
