@@ -16,6 +16,7 @@ use Rattle.plane_rules.specs.Plane.{Plane, read, refusing, onto, inBlock}
 use Rattle.plane_rules.specs.Dc.{newDc, dcBlocks}
 use Rattle.plane_rules.specs.Task.{Task}
 use Rattle.plane_rules.specs.AcRead.{acBlock, acBlocks}
+use Rattle.plane_rules.proofs.DcBlocks.{dc-first}
 use Rattle.demands.specs.Blocks.{Behind, begun, further, StopsAt, LeftOver, oneDc, oneAc}
 
 -- how the blocks of a plane ended: with these data left, or with a refusal
@@ -101,8 +102,7 @@ unfolding dcBlocks
 dc-nil k u s = refl
 
 dc-cons : (k : ℕ) (u : Unit {0}) (c : ℤ) (values : List ℤ) (s : Source) → endOf (dcBlocks k (c ∷ values) s) ≡ went k (λ v t. endOf (dcBlocks (suc k) values t)) (oneDc u c values s)
-unfolding dcBlocks
-dc-cons k u c values s = go (takeBit s)
+dc-cons k u c values s = ap endOf (dc-first k c values s) ∙ go (takeBit s)
   where
     go : (o : Out Bool) → endOf (inBlock k (λ b t. onto (newDc c b ∷ []) (dcBlocks (suc k) values t)) o) ≡ went k (λ v t. endOf (dcBlocks (suc k) values t)) (andThen (λ (b : Bool). done (tt {0})) o)
     go (got b t) = end-onto (newDc c b ∷ []) (dcBlocks (suc k) values t)

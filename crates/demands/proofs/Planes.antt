@@ -20,6 +20,7 @@ use Rattle.plane_rules.specs.Task.{Task, walk, ended, atZero}
 use Rattle.plane_rules.specs.AcRead.{taskAt, corrected, position, blockEnd, acBlock, cut, acBlocks}
 use Rattle.plane_rules.specs.Levels.{towardZero}
 use Rattle.answers.specs.declared.Refusal.{Refusal}
+use Rattle.plane_rules.proofs.DcBlocks.{dc-first}
 use Rattle.demands.specs.Written.{together}
 use Rattle.demands.specs.Two.{carrying, allBits, DcValuesAre, AcValuesAre}
 
@@ -85,7 +86,7 @@ dc-each : (values : List ℤ) (k : ℕ) (s : Source) (ys : List ℤ) (t : Source
     → (b : ℕ) → b < length values → getD ys b (pos 0) ≡ newDc (getD values b (pos 0)) (getD (bitsLeft s) b false)
 unfolding dcBlocks
 dc-each [] k s ys t e b h = absurd (omega arith)
-dc-each (v ∷ values) k s ys t e b h = go (dc-each values (suc k)) (takeBit s) refl e b h
+dc-each (v ∷ values) k s ys t e b h = go (dc-each values (suc k)) (takeBit s) refl (sym (dc-first k v values s) ∙ e) b h
   where
     at : (c : Bool) (u : Source) (rest : List ℤ) → ys ≡ (newDc v c ∷ []) ++ rest → bitsLeft s ≡ c ∷ bitsLeft u
         → ((b : ℕ) → b < length values → getD rest b (pos 0) ≡ newDc (getD values b (pos 0)) (getD (bitsLeft u) b false))

@@ -1,5 +1,5 @@
 -- With which numbers the readers of planes stop, in which block, and how many values and bytes they read. Assumes nothing.
-use mathlib.Core.Path.{_≡_, refl, sym, ap, _∙_}
+use mathlib.Core.Path.{_≡_, refl, sym, ap, subst, _∙_}
 use mathlib.Core.Bool.{Bool, true, false}
 use mathlib.Core.List.{List, [], _∷_}
 use mathlib.Core.Option.{Option, none, some}
@@ -20,7 +20,9 @@ use Rattle.bit_rules.specs.Read.{codeFrom, takeCode}
 use Rattle.plane_rules.specs.Plane.{Plane, read, refusing, onto, inBlock, closed}
 use Rattle.plane_rules.specs.Dc.{newDc, dcBlocks}
 use Rattle.plane_rules.specs.Task.{Task, walk, ended}
-use Rattle.plane_rules.specs.AcRead.{takeNumber, endRun, meaning, taskAt, position, blockEnd, acBlock, cut, acBlocks}
+use Rattle.bit_rules.specs.Number.{takeNumber}
+use Rattle.plane_rules.specs.AcRead.{endRun, meaning, taskAt, position, blockEnd, acBlock, cut, acBlocks}
+use Rattle.plane_rules.proofs.DcBlocks.{dc-first}
 use Rattle.demands.specs.One.{stands, row, rows, _then_}
 use Rattle.demands.specs.Blocks.{StopsAt, LeftOver}
 use Rattle.demands.proofs.Rows.{Judged, gives, passed, told, told-last}
@@ -139,8 +141,9 @@ module _ (P : ℕ → Type 0) (all : ℕ) where
   unfolding dcBlocks
   dc-blocks p12 p13 upto block [] s e k = (refl, k)
   dc-blocks p12 p13 upto block (c ∷ values) s e k =
-      in-block Any upto (suc (length values)) block _ (takeBit s) (omega arith) (bit p12 p13 s k) λ b h t l.
-      in-front upto (length values) (suc (length values)) (newDc c b ∷ []) (dcBlocks (suc block) values t) (omega arith) (dc-blocks p12 p13 upto (suc block) values t (omega arith) l)
+      subst (Blocks upto (suc (length values))) (sym (dc-first block c values s))
+      (in-block Any upto (suc (length values)) block _ (takeBit s) (omega arith) (bit p12 p13 s k) λ b h t l.
+      in-front upto (length values) (suc (length values)) (newDc c b ∷ []) (dcBlocks (suc block) values t) (omega arith) (dc-blocks p12 p13 upto (suc block) values t (omega arith) l))
 
   module _ (p12 : P 12) (p13 : P 13) (p14 : P 14) (p15 : P 15) (p16 : P 16) (p17 : P 17) where
     pub ac-blocks : (codes : Table) (upto block : ℕ) (o : Option Task) (bs : List (List ℤ)) (s : Source) → block + length bs ≡ upto → Kept s → Blocks upto (sizes bs) (acBlocks codes block o bs s)

@@ -22,7 +22,8 @@ use Rattle.bit_rules.specs.Write.{placeOf, word}
 use Rattle.bit_rules.proofs.CodeTrip.{bin-odd, halve, code-trip}
 use Rattle.plane_rules.specs.Plane.{read, onto}
 use Rattle.plane_rules.specs.Task.{Task, walk, ended, unit, atZero}
-use Rattle.plane_rules.specs.AcRead.{takeNumber, endRun, meaning, taskAt, position, blockEnd, acBlock, acBlocks}
+use Rattle.bit_rules.specs.Number.{takeNumber}
+use Rattle.plane_rules.specs.AcRead.{endRun, meaning, taskAt, position, blockEnd, acBlock, acBlocks}
 use Rattle.plane_rules.proofs.Halves.{kind-zero, kind-one, kind-minus-one, kind-up, kind-down}
 use Rattle.plane_rules.specs.AcWrite.{acHalf, Kind, keep, still, fresh, kindOf, oneMore, ahead, unlessNew, quiet, planned, plan, Token, code, raw, order, class, emit, mark, after, writeBlock, writeBlocks, orElse, lacking, spelled}
 

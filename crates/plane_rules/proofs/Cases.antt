@@ -16,7 +16,8 @@ use Rattle.bit_rules.specs.Read.{codeFrom, takeCode}
 use Rattle.bit_rules.specs.Write.{placeOf}
 use Rattle.plane_rules.specs.Plane.{onto, closed}
 use Rattle.plane_rules.specs.Dc.{newDc, dcBlocks, readDc, dcHalf, dcBit, writeDc}
-use Rattle.plane_rules.specs.AcRead.{takeNumber, endRun, meaning, taskAt, position, blockEnd, acBlock, cut, acBlocks, readAc}
+use Rattle.bit_rules.specs.Number.{takeNumber}
+use Rattle.plane_rules.specs.AcRead.{endRun, meaning, taskAt, position, blockEnd, acBlock, cut, acBlocks, readAc}
 use Rattle.plane_rules.specs.AcWrite.{acHalf, kindOf, oneMore, ahead, quiet, plan, order, emit, writeBlock, writeBlocks, tokens, lacking, writeAc}
 
 -- "Table T: lengths 2, values 00, 01, F0 (codes 00, 01, 10)."

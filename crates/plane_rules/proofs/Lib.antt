@@ -6,5 +6,6 @@ pub mod Levels
 pub mod Closing
 pub mod Ranges
 pub mod Halves
+pub mod DcBlocks
 pub mod DcTrip
 pub mod Cases

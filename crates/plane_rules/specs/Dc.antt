@@ -12,17 +12,23 @@ use Rattle.levels.specs.Level.{firstOutside}
 use Rattle.levels.specs.declared.Part.the-variants.{Dc}
 use Rattle.bit_rules.specs.Digits.{bin}
 use Rattle.bit_rules.specs.Source.{Source, start, takeBit}
+use Rattle.bit_rules.specs.Reader.{Reader, _>>=_, done}
 use Rattle.bit_rules.specs.Pack.{bytesOf}
-use Rattle.plane_rules.specs.Plane.{readable, writable, Plane, read, onto, inBlock, closed}
+use Rattle.plane_rules.specs.Plane.{readable, writable, Plane, blocksFrom, closed}
 
 -- "new DC = 2c + bit"
 unfoldable pub newDc : ℤ → Bool → ℤ
 newDc value b = pos 2 *ℤ value +ℤ pos (bin b)
 
+-- "one bit per block"; nothing stays open behind it
+abbrev pub dcBlock : Unit {0} → ℤ → List ℤ → Reader (List ℤ × Unit {0})
+dcBlock u c later = do
+  b ← takeBit
+  done (newDc c b ∷ [], u)
+
 -- the block with this number and those after it
 unfoldable pub dcBlocks : ℕ → List ℤ → Source → Plane
-dcBlocks block [] s = read [] s
-dcBlocks block (c ∷ values) s = inBlock block (λ b t. onto (newDc c b ∷ []) (dcBlocks (suc block) values t)) (takeBit s)
+dcBlocks block values s = blocksFrom dcBlock block tt values s
 
 -- reading: 20, 21, 11, 9, then 12, 13 and 18 as the bits are met
 unfoldable pub readDc : ℕ → ℕ → List ℤ → List ℕ → ℕ → Verdict ℤ
