@@ -1,7 +1,8 @@
 -- What the putter wrote, the taker gives back, then fewer than eight ones, then the end. Assumes nothing.
 use mathlib.Core.Path.{_≡_, refl, sym, ap, ap₂, _∙_, subst}
+use mathlib.Core.Logic.{inl, inr}
 use mathlib.Core.List.{List, [], _∷_, _++_, append-nil}
-use mathlib.Core.Bool.{Bool, true, false, cond}
+use mathlib.Core.Bool.{Bool, true, false}
 use Prim.Native.Nat.{ℕ, zero, suc, _+_, _*_, _/_, _%_, _^_}
 use native.Mathlib.Omega.{arith}
 use native.Mathlib.Nat.{pow-succ', div-div-eq-div-mul}
@@ -11,9 +12,10 @@ use lib.Seq.{append-snoc}
 use borrow.Author.Tests.{eqb-true, ne-eqb, eq-eqb}
 use Rattle.laws.specs.Index.{every}
 use Rattle.bit_rules.specs.Digits.{bin, odd, digits}
-use Rattle.bit_rules.specs.Source.{Source, source, got, stopped, stop, takeBit, takeFrom, nextByte, afterFF, opened, onlyPadding}
+use Rattle.bit_rules.specs.Source.{Source, source, got, takeBit, takeFrom, nextByte, afterFF, opened, onlyPadding}
 use Rattle.bit_rules.specs.Pack.{stuffed, padded, packed, bytesOf}
 use Rattle.bit_rules.specs.Gives.{Gives, Unread, Says}
+use Rattle.bit_rules.proofs.Took.{Took, took}
 
 pub gives-then : (s : Source) (a b : List Bool) (t u : Source) → Gives s a t → Gives t b u → Gives s (a ++ b) u
 gives-then s [] b t u f g = rw f g
@@ -150,29 +152,11 @@ padding-left u pad h = rw (h .0, h .1, every-ones pad)
 
 -- ---- "bytes read": what was read and what is coming are always the whole
 
-got-source : {b c : Bool} {s t : Source} → got b s ≡ got c t → s ≡ t
-got-source e = cc
-
-no-bit : {b : Bool} {t : Source} {n : ℕ} → stopped (stop n) ≡ got b t → ⊥
-no-bit e = let z : _≡_ {A = ℕ} 0 1 = cc in omega arith
-
-byte-counted : (d : List ℕ) (n : ℕ) (b : Bool) (t : Source) → nextByte d n ≡ got b t → t .seen + length (t .coming) ≡ n + length d
-unfolding nextByte afterFF opened
-byte-counted [] n b t e = absurd (no-bit e)
-byte-counted (byte ∷ d) n b t e = go (eqb byte 255) d e
-  where
-    go : (c : Bool) (l : List ℕ) → cond c (afterFF l n) (opened byte l (n + 1)) ≡ got b t → t .seen + length (t .coming) ≡ n + suc (length l)
-    go true [] e = absurd (no-bit e)
-    go true (zero ∷ l) e = let q = got-source e in rw (← q) (omega arith)
-    go true (suc v ∷ l) e = absurd (no-bit e)
-    go false l e = let q = got-source e in rw (← q) (omega arith)
-
-bit-counted : (pending : List Bool) (d : List ℕ) (n : ℕ) (b : Bool) (t : Source) → takeFrom pending d n ≡ got b t → t .seen + length (t .coming) ≡ n + length d
-unfolding takeFrom
-bit-counted [] d n b t e = byte-counted d n b t e
-bit-counted (x ∷ pending) d n b t e = let q = got-source e in rw (← q)
+bit-counted : (s : Source) (b : Bool) (t : Source) → Took s (got b t) → t .seen + length (t .coming) ≡ s .seen + length (s .coming)
+bit-counted s b t (inl h) = let d = ap length (h .coming) in omega (arith, h .seen)
+bit-counted s b t (inr (inl h)) = let d = ap length (h .coming) in omega (arith, h .seen)
+bit-counted s b t (inr (inr h)) = let d = ap length (h .coming) in omega (arith, h .seen)
 
 pub counted : (s : Source) (bits : List Bool) (u : Source) → Gives s bits u → u .seen + length (u .coming) ≡ s .seen + length (s .coming)
-unfolding takeBit
 counted s [] u g = rw g
-counted s (b ∷ bits) u g = counted (g .0) bits u (g .2) ∙ bit-counted (s .pending) (s .coming) (s .seen) b (g .0) (g .1)
+counted s (b ∷ bits) u g = counted (g .0) bits u (g .2) ∙ bit-counted s b (g .0) (subst (Took s) (g .1) (took s))

@@ -1,18 +1,20 @@
 -- What a reading says of the words: the converse of `code-trip`, and the same of "no code". Assumes nothing.
-use mathlib.Core.Path.{_≡_, refl, sym, ap, _∙_}
+use mathlib.Core.Path.{_≡_, refl, sym, ap, subst, _∙_}
+use mathlib.Core.Logic.{inl, inr}
 use mathlib.Core.Bool.{Bool, true, false, cond}
 use mathlib.Core.List.{List, [], _∷_, _++_}
 use Prim.Native.Nat.{ℕ, zero, suc, _+_, _-_, _*_, _/_, _^_, _≤_, _<_}
 use native.Mathlib.Omega.{arith}
-use lib.Dec.{eqb, ltb}
+use lib.Dec.{ltb}
 use lib.ListN.{length, getD, drop}
 use lib.Seq.{getD-drop}
 use borrow.Author.Tests.{ltb-true, ltb-false, lt-ltb, le-ltb}
 use Rattle.bit_rules.specs.Digits.{bin, digits}
-use Rattle.bit_rules.specs.Source.{Source, Out, got, stopped, stop, takeBit, takeFrom, nextByte, afterFF, opened}
+use Rattle.bit_rules.specs.Source.{Source, Out, got, stopped, stop, takeBit}
 use Rattle.bit_rules.specs.declared.Stop.{Stop}
 use Rattle.bit_rules.specs.Reader.{andThen, done}
 use Rattle.bit_rules.specs.Gives.{Gives}
+use Rattle.bit_rules.proofs.Took.{Took, took}
 use Rattle.bit_rules.proofs.Trip.{gives-split, odd-bin}
 use Rattle.bit_rules.proofs.Digits.{digits-length, bin-small}
 use Rattle.bit_rules.specs.Table.{Table, codeCount, goodTable}
@@ -133,25 +135,12 @@ read-word T g v s u e =
 told : {A : Type 0} (n : ℕ) (x : Stop) → _≡_ {A = Out A} (stopped (stop n)) (stopped x) → x .number ≡ n
 told n x e = let q : stop n ≡ x = cc in rw (← q)
 
--- a bit that is not there is 12 or 13
-byte-stops : (coming : List ℕ) (seen : ℕ) (x : Stop) → nextByte coming seen ≡ stopped x → x .number ≡ 14 → ⊥
-unfolding nextByte afterFF opened
-byte-stops [] seen x e n = let z = told 12 x e in omega arith
-byte-stops (byte ∷ coming) seen x e n = go (eqb byte 255) coming e
-  where
-    go : (c : Bool) (l : List ℕ) → cond c (afterFF l seen) (opened byte l (seen + 1)) ≡ stopped x → ⊥
-    go true [] e = let z = told 12 x e in omega arith
-    go true (zero ∷ l) e = no-stop e
-    go true (suc v ∷ l) e = let z = told 13 x e in omega arith
-    go false l e = no-stop e
-
 bit-stops : (s : Source) (x : Stop) → takeBit s ≡ stopped x → x .number ≡ 14 → ⊥
-unfolding takeBit takeFrom
-bit-stops s x e n = go (s .pending) e
+bit-stops s x e n = go (subst (Took s) e (took s))
   where
-    go : (pending : List Bool) → takeFrom pending (s .coming) (s .seen) ≡ stopped x → ⊥
-    go [] e = byte-stops (s .coming) (s .seen) x e n
-    go (b ∷ pending) e = no-stop e
+    go : Took s (stopped x) → ⊥
+    go (inl h) = omega arith
+    go (inr h) = omega arith
 
 -- all lengths were passed: so many bits were taken
 module _ (x : Stop) (fourteen : x .number ≡ 14) where

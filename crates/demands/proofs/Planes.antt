@@ -1,19 +1,18 @@
 -- Demand 2's refined coefficients, value by value. Assumes nothing.
-use mathlib.Core.Path.{_≡_, refl, sym, ap, _∙_}
-use mathlib.Core.Bool.{Bool, true, false, cond}
+use mathlib.Core.Path.{_≡_, refl, sym, ap, subst, _∙_}
+use mathlib.Core.Logic.{inl, inr}
+use mathlib.Core.Bool.{Bool, true, false}
 use mathlib.Core.List.{List, [], _∷_, _++_, map, map-append}
 use mathlib.Core.Option.{Option, none, some}
 use Prim.Native.Nat.{ℕ, zero, suc, _+_, _*_, _/_, _<_}
 use native.Mathlib.Omega.{arith}
-use borrow.Author.Tests.{eqb-true}
-use lib.Dec.{eqb}
 use lib.IntN.{ℤ, pos, negsuc}
 use lib.ListN.{length, getD, drop, length-drop, take-append-drop}
-use Rattle.bit_rules.specs.Digits.{digits}
-use Rattle.bit_rules.specs.Source.{Source, start, Out, got, stopped, opened, afterFF, nextByte, takeFrom, takeBit}
+use Rattle.bit_rules.specs.Source.{Source, start, Out, got, stopped, takeBit}
 use Rattle.bit_rules.specs.Reader.{Reader, andThen}
 use Rattle.bit_rules.specs.declared.Stop.{Stop}
 use Rattle.bit_rules.specs.Table.{Table}
+use Rattle.bit_rules.proofs.Took.{Took, took}
 use Rattle.plane_rules.specs.Plane.{Plane, read, refusing, onto, inBlock}
 use Rattle.plane_rules.specs.Dc.{newDc, dcBlocks}
 use Rattle.plane_rules.specs.Task.{Task, walk, ended, atZero}
@@ -36,30 +35,14 @@ got-both e = (cc, cc)
 pub stopped-got : {A : Type 0} {b : A} {x : Stop} {t : Source} → stopped x ≡ got b t → ⊥
 stopped-got e = let z : _≡_ {A = ℕ} 0 1 = cc in omega arith
 
--- a byte that was opened: its first bit, and the others
-opened-bits : (byte : ℕ) (coming : List ℕ) (seen : ℕ) (b : Bool) (t : Source) → opened byte coming seen ≡ got b t → digits 8 byte ++ allBits (carrying false coming) ≡ b ∷ bitsLeft t
-unfolding opened digits
-opened-bits byte coming seen b t e = let h = got-both e in rw (← h .0, ← h .1)
-
-ff-bits : (coming : List ℕ) (seen : ℕ) (b : Bool) (t : Source) → afterFF coming seen ≡ got b t → digits 8 255 ++ allBits (carrying true coming) ≡ b ∷ bitsLeft t
-unfolding afterFF carrying
-ff-bits [] seen b t e = absurd (stopped-got e)
-ff-bits (zero ∷ coming) seen b t e = opened-bits 255 coming (seen + 2) b t e
-ff-bits (suc v ∷ coming) seen b t e = absurd (stopped-got e)
-
-bit-from : (pending : List Bool) (coming : List ℕ) (seen : ℕ) (b : Bool) (t : Source) → takeFrom pending coming seen ≡ got b t → pending ++ allBits (carrying false coming) ≡ b ∷ bitsLeft t
-unfolding takeFrom nextByte carrying allBits
-bit-from [] [] seen b t e = absurd (stopped-got e)
-bit-from [] (byte ∷ coming) seen b t e = go (eqb byte 255) refl e
-  where
-    go : (q : Bool) → eqb byte 255 ≡ q → cond q (afterFF coming seen) (opened byte coming (seen + 1)) ≡ got b t → digits 8 byte ++ allBits (carrying q coming) ≡ b ∷ bitsLeft t
-    go true q h = rw (eqb-true byte 255 q) (ff-bits coming seen b t h)
-    go false q h = opened-bits byte coming (seen + 1) b t h
-bit-from (c ∷ pending) coming seen b t e = let h = got-both e in rw (← h .0, ← h .1)
-
 next-bit : (s : Source) (b : Bool) (t : Source) → takeBit s ≡ got b t → bitsLeft s ≡ b ∷ bitsLeft t
-unfolding takeBit
-next-bit s b t e = bit-from (s .pending) (s .coming) (s .seen) b t e
+unfolding carrying allBits
+next-bit s b t e = go (subst (Took s) e (took s))
+  where
+    go : Took s (got b t) → bitsLeft s ≡ b ∷ bitsLeft t
+    go (inl h) = rw (h .pending, h .coming)
+    go (inr (inl h)) = rw (h .pending, h .coming, h .plain, h .bits)
+    go (inr (inr h)) = rw (h .pending, h .coming, h .bits)
 
 -- ---- a plane that was read
 

@@ -1,11 +1,12 @@
 -- With which numbers the readers of planes stop, in which block, and how many values and bytes they read. Assumes nothing.
 use mathlib.Core.Path.{_≡_, refl, sym, ap, subst, _∙_}
+use mathlib.Core.Logic.{inl, inr}
 use mathlib.Core.Bool.{Bool, true, false}
 use mathlib.Core.List.{List, [], _∷_}
 use mathlib.Core.Option.{Option, none, some}
 use Prim.Native.Nat.{ℕ, zero, suc, _+_, _-_, _*_, _/_, _%_, _^_, _≤_, _<_}
 use native.Mathlib.Omega.{arith}
-use lib.Dec.{T, eqb, ltb, leb}
+use lib.Dec.{T, ltb, leb}
 use lib.IntN.{ℤ, pos, negsuc}
 use lib.ListN.{length, take, drop, length-append, length-drop}
 use lib.Seq.{length-take-le}
@@ -13,10 +14,11 @@ use Rattle.laws.proofs.Choices.{by-test, true-false}
 use Rattle.answers.specs.Verdict.{given, refusal, need}
 use Rattle.answers.specs.declared.Refusal.{Refusal}
 use Rattle.bit_rules.specs.Digits.{bin}
-use Rattle.bit_rules.specs.Source.{Source, Out, got, stopped, opened, afterFF, nextByte, takeFrom, takeBit, onlyPadding}
+use Rattle.bit_rules.specs.Source.{Source, Out, got, stopped, takeBit, onlyPadding}
 use Rattle.bit_rules.specs.Reader.{Reader, andThen}
 use Rattle.bit_rules.specs.Table.{Table}
 use Rattle.bit_rules.specs.Read.{codeFrom, takeCode}
+use Rattle.bit_rules.proofs.Took.{Took, took}
 use Rattle.plane_rules.specs.Plane.{Plane, read, refusing, onto, inBlock, closed}
 use Rattle.plane_rules.specs.Dc.{newDc, dcBlocks}
 use Rattle.plane_rules.specs.Task.{Task, walk, ended}
@@ -51,21 +53,15 @@ module _ (P : ℕ → Type 0) (all : ℕ) where
   onward Q R f (stopped x) h g = h
 
   module _ (p12 : P 12) (p13 : P 13) where
-    after-ff : (coming : List ℕ) (seen : ℕ) → seen + suc (length coming) ≡ all → Stops Any (afterFF coming seen)
-    unfolding afterFF opened
-    after-ff [] seen k = p12
-    after-ff (zero ∷ coming) seen k = (tt, omega arith)
-    after-ff (suc v ∷ coming) seen k = p13
-
-    bit-from : (pending : List Bool) (coming : List ℕ) (seen : ℕ) → seen + length coming ≡ all → Stops Any (takeFrom pending coming seen)
-    unfolding takeFrom nextByte opened
-    bit-from [] [] seen k = p12
-    bit-from [] (byte ∷ coming) seen k = by-test (Stops Any) (eqb byte 255) (λ e. after-ff coming seen k) (λ e. (tt, omega arith))
-    bit-from (b ∷ pending) coming seen k = (tt, k)
-
     bit : (s : Source) → Kept s → Stops Any (takeBit s)
-    unfolding takeBit
-    bit s k = bit-from (s .pending) (s .coming) (s .seen) k
+    bit s k = go (takeBit s) (took s)
+      where
+        go : (o : Out Bool) → Took s o → Stops Any o
+        go (got b t) (inl h) = let d = ap length (h .coming) in (tt, omega (arith, h .seen))
+        go (got b t) (inr (inl h)) = let d = ap length (h .coming) in (tt, omega (arith, h .seen))
+        go (got b t) (inr (inr h)) = let d = ap length (h .coming) in (tt, omega (arith, h .seen))
+        go (stopped x) (inl h) = rw h p12
+        go (stopped x) (inr h) = rw h p13
 
     module _ (p14 : P 14) (p15 : P 15) (p16 : P 16) (p17 : P 17) where
       code-from : (counts values : List ℕ) (so-far : ℕ) (s : Source) → Kept s → Stops Any (codeFrom counts values so-far s)

@@ -1,15 +1,15 @@
 -- A value against its half, told by its low bit. Assumes nothing.
-use mathlib.Core.Path.{_≡_, refl, sym, ap, _∙_}
+use mathlib.Core.Path.{_≡_, refl, ap, _∙_}
 use mathlib.Core.Bool.{Bool, true, false, not}
 use Prim.Native.Nat.{ℕ, suc, _+_, _*_, _/_, _%_}
 use native.Mathlib.Omega.{arith}
 use lib.Dec.{eqb, ltb}
-use lib.IntN.{ℤ, pos, negsuc, negℤ}
+use lib.IntN.{pos, negsuc}
 use borrow.Author.Tests.{eqb-true, eqb-false, ne-eqb, lt-ltb, le-ltb}
 use Rattle.laws.proofs.Integers.{abs-neg}
 use Rattle.bit_rules.specs.Digits.{odd}
 use Rattle.plane_rules.specs.Dc.{dcHalf, dcBit}
-use Rattle.plane_rules.specs.AcWrite.{acHalf, still, fresh, keep, fromZero, kindOf}
+use Rattle.plane_rules.specs.AcWrite.{acHalf, still, fresh, keep, kindOf}
 
 -- more than twice its half is odd
 more-odd : (n : ℕ) → ltb (2 * (n / 2)) n ≡ odd n

@@ -1,7 +1,7 @@
 -- DC planes, read and written (01: "A DC plane is one bit per block: new DC = 2c + bit. Its calls need no table.").
 use mathlib.Core.Bool.{Bool}
 use mathlib.Core.List.{List, [], _∷_, map}
-use Prim.Native.Nat.{ℕ, suc, _-_, _/_}
+use Prim.Native.Nat.{ℕ, _-_, _/_}
 use lib.Dec.{eqb, leb}
 use lib.IntN.{ℤ, pos, negsuc, _+ℤ_, _*ℤ_}
 use lib.ListN.{length}

@@ -1,5 +1,5 @@
 -- `ac_plan::ahead_of` meets its contract: what is seen from here, behind the zeros passed, is what is seen from the start. Assumes nothing.
-use mathlib.Core.Path.{_≡_, refl, ap, _∙_}
+use mathlib.Core.Path.{refl, ap, _∙_}
 use mathlib.Core.Bool.{true, false}
 use Prim.Native.Nat.{_-_}
 use native.Mathlib.Omega.{arith}
