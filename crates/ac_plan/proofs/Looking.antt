@@ -12,6 +12,7 @@ use lib.Seq.{drop-cons, drop-drop}
 use Rattle.bit_rules.specs.Digits.{odd}
 use Rattle.plane_rules.specs.AcRead.{cut}
 use Rattle.plane_rules.specs.AcWrite.{Kind, fresh, kindOf, ahead, oneMore, quiet, unlessNew}
+use Rattle.plane_rules.proofs.Halves.{kind-zero, kind-up, kind-down}
 use Rattle.ac_plan.specs.Plan.{kindsFrom, kindBlocks, kindIs, stillIs, comingIs}
 use Rattle.ac_plan.specs.declared.Change.{Change}
 use Rattle.ac_plan.specs.declared.Change.the-variants.{Kept, Still, Fresh}
@@ -74,12 +75,12 @@ module _ {block : List ℤ} {from zeros i : ℕ} (l : Looked block from zeros i)
 
   -- a value that is not new
   pub look-on : (v : ℤ) → i < length block → getD block i (pos 0) ≡ v → (v ≡ pos 1 → ⊥) → (v ≡ negsuc 0 → ⊥) → Looked block from (zeros + stillIs (kindOf v)) (i + 1)
-  unfolding kindOf kindIs
-  look-on (pos zero) h e n m = look-still h {change = Still} (rw e) refl
+  unfolding kindIs
+  look-on (pos zero) h e n m = rw kind-zero (look-still h {change = Still} (rw (e, kind-zero)) refl)
   look-on (pos (suc zero)) h e n m = absurd (n refl)
-  look-on (pos (suc (suc k))) h e n m = let z : zeros + 0 ≡ zeros = omega arith in rw z (look-kept h {change = Kept (odd k)} (rw e) refl)
+  look-on (pos (suc (suc k))) h e n m = let z : zeros + 0 ≡ zeros = omega arith in rw (kind-up k, z) (look-kept h {change = Kept (odd k)} (rw (e, kind-up k)) refl)
   look-on (negsuc zero) h e n m = absurd (m refl)
-  look-on (negsuc (suc k)) h e n m = let z : zeros + 0 ≡ zeros = omega arith in rw z (look-kept h {change = Kept (odd k)} (rw e) refl)
+  look-on (negsuc (suc k)) h e n m = let z : zeros + 0 ≡ zeros = omega arith in rw (kind-down k, z) (look-kept h {change = Kept (odd k)} (rw (e, kind-down k)) refl)
 
   -- one that is
   pub look-new : (v : ℤ) (b : Bool) → i < length block → getD block i (pos 0) ≡ v → kindOf v ≡ fresh b → comingIs (Value zeros b) ≡ ahead (kindsFrom block from)

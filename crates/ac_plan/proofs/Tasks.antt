@@ -1,22 +1,15 @@
--- What is left of an end run behind a block; the task that is planned. Assumes nothing.
-use mathlib.Core.Path.{_≡_, refl}
+-- The task that is planned. Assumes nothing.
+use mathlib.Core.Path.{_≡_}
 use mathlib.Core.Bool.{Bool}
-use mathlib.Core.Option.{some}
 use mathlib.Core.List.{List}
-use Prim.Native.Nat.{ℕ, zero, suc, _-_, _≤_, _<_}
-use native.Mathlib.Numerals.{sub-one}
+use Prim.Native.Nat.{ℕ, _≤_, _<_}
 use native.Mathlib.Omega.{arith}
 use borrow.Author.Tests.{lt-ltb, le-ltb}
-use Rattle.plane_rules.specs.Task.{ended, over}
 use Rattle.plane_rules.specs.AcWrite.{Kind, ahead, quiet, plan}
 use Rattle.ac_tasks.specs.declared.Job.the-variants.{Leave, Set, Ended}
 use Rattle.ac_plan.specs.Plan.{comingIs, Planned}
 use Rattle.ac_plan.specs.declared.Coming.{Coming}
 use Rattle.ac_plan.specs.declared.Coming.the-variants.{Value, Quiet}
-
-pub over-on : (n : ℕ) → (n ≡ 0 → ⊥) → some (ended (n - 1)) ≡ over (some (ended n))
-over-on zero h = absurd (h refl)
-over-on (suc n) h = rw sub-one
 
 -- ---- the task planned by what is coming
 

@@ -2,12 +2,9 @@
 ghost use mathlib.Core.Path.{_≡_};
 ghost use Prim.Native.Nat.{_*_, _≤_};
 ghost use lib.ListN.{length};
-ghost use Rattle.plane_rules.specs.Task as defined;
 ghost use Rattle.plane_rules.specs.AcWrite as written;
-ghost use Rattle.ac_tasks.specs.Code.{openOf};
 ghost use Rattle.ac_plan.specs.Plan.{kindsFrom, kindBlocks, kindIs, stillIs, comingIs, Planned};
 use ac_tasks::Job;
-use ac_tasks::Open;
 
 // A value against its half: its correction bit, a zero that stays, or a new value with its sign.
 pub enum Change {
@@ -98,31 +95,5 @@ pub fn plan(block: &[i32], i: usize, later: &[i32], blocks: usize) -> Job
             }
             Job::Leave(15)
         }
-    }
-}
-
-// What is left of a task behind a block.
-fn over_job(job: Job) -> Open
-    ensures { λ r. ⌜ openOf r ≡ defined.over (openOf (Open.Doing job)) ⌝ }
-{
-    match job {
-        Job::Ended(n) => {
-            if n == 0 {
-                return Open::Nothing;
-            }
-            Open::Doing(Job::Ended(n - 1))
-        }
-        Job::Leave(_) => Open::Nothing,
-        Job::Set(_, _) => Open::Nothing,
-    }
-}
-
-// The job that the next block begins with.
-pub fn over(task: Open) -> Open
-    ensures { λ r. ⌜ openOf r ≡ defined.over (openOf task) ⌝ }
-{
-    match task {
-        Open::Nothing => Open::Nothing,
-        Open::Doing(job) => over_job(job),
     }
 }

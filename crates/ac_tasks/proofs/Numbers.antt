@@ -15,7 +15,8 @@ use Rattle.bits.specs.Code.{sourceOf}
 use Rattle.bit_rules.specs.declared.Stop.{Stop}
 use Rattle.bits.specs.declared.Cursor.{Cursor}
 use Rattle.bit_rules.proofs.Digits.{bin-small}
-use Rattle.plane_rules.specs.AcRead.{takeNumber, corrected}
+use Rattle.bit_rules.specs.Number.{takeNumber}
+use Rattle.plane_rules.specs.AcRead.{corrected}
 use Rattle.ac_tasks.specs.Code.{numberOf, Counts}
 use Rattle.ac_tasks.specs.declared.Number.the-variants.{Is, Stopped}
 

@@ -2,17 +2,17 @@
 use mathlib.Core.Path.{_≡_, refl, sym, ap, _∙_}
 use mathlib.Core.Bool.{Bool, true, false}
 use mathlib.Core.Option.{Option, some}
-use Prim.Native.Nat.{ℕ, suc, _+_, _-_, _*_, _%_, _^_, _≤_, _<_}
+use Prim.Native.Nat.{ℕ, zero, suc, _+_, _-_, _*_, _%_, _^_, _≤_, _<_}
+use native.Mathlib.Numerals.{sub-one}
 use native.Mathlib.Omega.{arith}
 use lib.Bits.{bitAnd, and-mask}
 use lib.Dec.{leb}
 use borrow.Author.Tests.{le-leb, lt-leb}
 use Rattle.bit_rules.specs.Source.{Source, stopped, stop}
-use Rattle.bits.specs.Code.{sourceOf}
 use Rattle.bits.specs.declared.Cursor.{Cursor}
-use Rattle.plane_rules.specs.Task.{walk, ended}
+use Rattle.plane_rules.specs.Task.{walk, ended, over}
 use Rattle.plane_rules.specs.AcRead.{meaning, blockEnd}
-use Rattle.ac_tasks.specs.Code.{taskOf, blockOf, BlockEnds}
+use Rattle.ac_tasks.specs.Code.{taskOf, openOf, blockOf, BlockEnds}
 use Rattle.ac_tasks.specs.declared.Job.{Job}
 use Rattle.ac_tasks.specs.declared.Job.the-variants.{Ended}
 use Rattle.ac_tasks.specs.declared.Open.{Open}
@@ -20,8 +20,11 @@ use Rattle.ac_tasks.specs.declared.Open.the-variants.{Nothing, Doing}
 use Rattle.ac_tasks.specs.declared.Block.the-variants.{Done, Stopped}
 use Rattle.ac_tasks.proofs.Numbers.{moved-one}
 
-one-less : (n : ℕ) → (n ≡ 0 → ⊥) → n ≡ suc (n - 1)
-one-less n h = omega arith
+-- ---- what is left of an end run behind a block
+
+pub over-on : (n : ℕ) → (n ≡ 0 → ⊥) → some (ended (n - 1)) ≡ over (some (ended n))
+over-on zero h = absurd (h refl)
+over-on (suc n) h = rw sub-one
 
 -- ---- the end of a block
 
@@ -35,13 +38,9 @@ module _ {task : Open} {c : Cursor} where
     unfolding blockEnd blockOf
     ends-walk q = record { same = λ bytes. rw (e, q) }
 
-    pub ends-last : {n : ℕ} → job ≡ Ended n → n ≡ 0 → BlockEnds task c (Done Nothing c)
+    pub ends-run : {n : ℕ} {next : Open} → job ≡ Ended n → openOf next ≡ over (openOf (Doing job)) → BlockEnds task c (Done next c)
     unfolding blockEnd blockOf
-    ends-last q z = rw (e, q, z) (record { same = λ bytes. refl })
-
-    pub ends-run : {n : ℕ} → job ≡ Ended n → (n ≡ 0 → ⊥) → BlockEnds task c (Done (Doing (Ended (n - 1))) c)
-    unfolding blockEnd blockOf
-    ends-run {n} q z = rw (e, q) (record { same = λ bytes. sym (ap (λ (k : ℕ). blockEnd (some (ended k)) (sourceOf bytes c)) (one-less n z)) })
+    ends-run q f = record { same = λ bytes. rw (e, f, q) }
 
 -- ---- an end run, in the code's terms
 

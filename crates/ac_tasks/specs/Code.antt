@@ -8,7 +8,8 @@ use Rattle.bit_rules.specs.Source.{Out, got, stopped}
 use Rattle.bits.specs.Code.{sourceOf}
 use Rattle.bits.specs.declared.Cursor.{Cursor}
 use Rattle.plane_rules.specs.Task.{Task, walk, ended}
-use Rattle.plane_rules.specs.AcRead.{takeNumber, blockEnd}
+use Rattle.bit_rules.specs.Number.{takeNumber}
+use Rattle.plane_rules.specs.AcRead.{blockEnd}
 use Rattle.ac_tasks.specs.declared.Job.{Job}
 use Rattle.ac_tasks.specs.declared.Job.the-variants.{Leave, Set, Ended}
 use Rattle.ac_tasks.specs.declared.Open.{Open}

@@ -13,7 +13,7 @@ use Rattle.bit_rules.specs.Pack.{stuffed, padded, packed}
 use Rattle.bit_rules.specs.Table.{Table, table, codeCount, kraft, holds, distinct, goodTable}
 use Rattle.bit_rules.specs.Write.{placeOf, codeAt, word}
 use Rattle.plane_rules.specs.AcRead.{cut}
-use Rattle.plane_rules.specs.AcWrite.{kindOf, oneMore, ahead, quiet, plan, order, emit, writeBlock, writeBlocks, tokens, lacking, spelled, writeAc}
+use Rattle.plane_rules.specs.AcWrite.{acHalf, kindOf, oneMore, ahead, quiet, plan, order, emit, writeBlock, writeBlocks, tokens, lacking, spelled, writeAc}
 
 -- three codes of two bits: 00, 01, 10
 abbrev pub threeCodes : List ℕ → Table
@@ -134,5 +134,5 @@ abbrev pub writings : List Writing
 writings = blocks ++ (runs ++ refusals)
 
 pub cases : map (λ (w : Writing). writeAc (w .plane) (w .blocks) (w .codes) (w .values) (w .room)) writings ≡ map (λ (w : Writing). w .verdict) writings
-unfolding every firstFail orHere inLevel isDc inside firstOutside digits stuffed padded packed codeCount kraft holds distinct goodTable placeOf codeAt word cut kindOf oneMore ahead quiet plan order emit writeBlock writeBlocks tokens lacking spelled writeAc
+unfolding every firstFail orHere inLevel isDc inside firstOutside digits stuffed padded packed codeCount kraft holds distinct goodTable placeOf codeAt word cut acHalf kindOf oneMore ahead quiet plan order emit writeBlock writeBlocks tokens lacking spelled writeAc
 cases = refl

@@ -300,7 +300,7 @@ fn put_block(
     }
     let pen = s.pen;
     let last = s.task;
-    let task = ac_plan::over(last);
+    let task = ac_tasks::over(last);
     State { pen, task }
 }
 

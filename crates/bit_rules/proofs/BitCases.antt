@@ -8,6 +8,7 @@ use Rattle.laws.specs.Index.{every}
 use Rattle.bit_rules.specs.Digits.{digits}
 use Rattle.bit_rules.specs.Source.{Source, source, start, Out, got, stopped, stop, opened, afterFF, nextByte, takeFrom, takeBit, onlyPadding}
 use Rattle.bit_rules.specs.Reader.{Reader, _>>=_, done}
+use Rattle.bit_rules.specs.Number.{takeNumber}
 use Rattle.bit_rules.specs.Pack.{stuffed, padded, packed, bytesOf}
 
 abbrev pub ones : ℕ → List Bool
@@ -67,6 +68,21 @@ takings =
 pub bits-taken : map (λ (t : Taking). taking (t .count) (t .from)) takings ≡ map (λ (t : Taking). t .answer) takings
 unfolding digits opened afterFF nextByte takeFrom takeBit
 bits-taken = refl
+
+-- ---- numbers taken
+
+-- so many bits behind a number, the highest first: none, 110 alone and behind 1, eight of the byte 43, nine of 01 80; 12 where the data end early
+pub numbers-taken :
+    (takeNumber 0 5 (start (0x43 ∷ []))
+    ∷ takeNumber 3 0 (source (true ∷ true ∷ false ∷ []) [] 5)
+    ∷ takeNumber 3 1 (source (true ∷ true ∷ false ∷ []) [] 5)
+    ∷ takeNumber 8 0 (start (0x43 ∷ []))
+    ∷ takeNumber 9 0 (start (0x01 ∷ 0x80 ∷ []))
+    ∷ takeNumber 9 0 (start (0x43 ∷ []))
+    ∷ [])
+    ≡ (got 5 (start (0x43 ∷ [])) ∷ got 6 (source [] [] 5) ∷ got 14 (source [] [] 5) ∷ got 67 (source [] [] 1) ∷ got 3 (source (zeros 7) [] 2) ∷ stopped (stop 12) ∷ [])
+unfolding digits opened afterFF nextByte takeFrom takeBit takeNumber
+numbers-taken = refl
 
 -- ---- padding
 

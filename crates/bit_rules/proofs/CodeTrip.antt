@@ -121,8 +121,9 @@ pub prefix-free : (T : Table) (v w k j : ℕ) (rest : List Bool) → goodTable T
     → word T w ≡ word T v ++ rest → v ≡ w
 prefix-free T v w k j rest g p q e =
     let s : Source = source (word T w) [] 0 in
-    let u : Source = source [] [] 0 in
-    let all : Gives s (word T w) u = rw (append-nil (word T w)) at (in-hand (word T w) [] [] 0) in
+    let r = in-hand (word T w) [] [] s (sym (append-nil (word T w)), refl) in
+    let u : Source = r .0 in
+    let all : Gives s (word T w) u = r .1 in
     let parts = gives-split s (word T v) rest u (subst (λ (bits : List Bool). Gives s bits u) e all) in
     let one : takeCode T s ≡ got v (parts .0) = code-trip T v k s (parts .0) g p (parts .1) in
     let two : takeCode T s ≡ got w u = code-trip T w j s u g q all in

@@ -4,5 +4,6 @@ pub mod CodeCases
 pub mod Tables
 pub mod Words
 pub mod Places
+pub mod Took
 pub mod Trip
 pub mod CodeTrip

@@ -1,7 +1,8 @@
 -- What the putter wrote, the taker gives back, then fewer than eight ones, then the end. Assumes nothing.
 use mathlib.Core.Path.{_≡_, refl, sym, ap, ap₂, _∙_, subst}
+use mathlib.Core.Logic.{inl, inr}
 use mathlib.Core.List.{List, [], _∷_, _++_, append-nil}
-use mathlib.Core.Bool.{Bool, true, false, cond}
+use mathlib.Core.Bool.{Bool, true, false}
 use Prim.Native.Nat.{ℕ, zero, suc, _+_, _*_, _/_, _%_, _^_}
 use native.Mathlib.Omega.{arith}
 use native.Mathlib.Nat.{pow-succ', div-div-eq-div-mul}
@@ -11,9 +12,10 @@ use lib.Seq.{append-snoc}
 use borrow.Author.Tests.{eqb-true, ne-eqb, eq-eqb}
 use Rattle.laws.specs.Index.{every}
 use Rattle.bit_rules.specs.Digits.{bin, odd, digits}
-use Rattle.bit_rules.specs.Source.{Source, source, takeBit, takeFrom, nextByte, afterFF, opened, onlyPadding}
+use Rattle.bit_rules.specs.Source.{Source, source, got, takeBit, takeFrom, nextByte, afterFF, opened, onlyPadding}
 use Rattle.bit_rules.specs.Pack.{stuffed, padded, packed, bytesOf}
-use Rattle.bit_rules.specs.Gives.{Gives, Says}
+use Rattle.bit_rules.specs.Gives.{Gives, Unread, Says}
+use Rattle.bit_rules.proofs.Took.{Took, took}
 
 pub gives-then : (s : Source) (a b : List Bool) (t u : Source) → Gives s a t → Gives t b u → Gives s (a ++ b) u
 gives-then s [] b t u f g = rw f g
@@ -51,67 +53,92 @@ padded-digits c (suc m) q =
     let e : q + suc m ≡ suc q + m = omega arith in
     rw (e, padded-digits (2 * c + 1) m (suc q), digits-snoc q c true) (append-snoc (digits q c) true (replicate (suc m) true))
 
--- ---- a byte
+-- ---- one bit: what is pending and coming behind it
 
-pub in-hand : (a r : List Bool) (d : List ℕ) (n : ℕ) → Gives (source (a ++ r) d n) a (source r d n)
+-- of those in hand
+bit-in-hand : (s : Source) (b : Bool) (rest : List Bool) (d : List ℕ) → Unread s (b ∷ rest) d → (t : Source) × (takeBit s ≡ got b t) × Unread t rest d
 unfolding takeBit takeFrom
-in-hand [] r d n = refl
-in-hand (b ∷ a) r d n = (source (a ++ r) d n, refl, in-hand a r d n)
+bit-in-hand s b rest d h = (source rest d (s .seen), rw (h .0, h .1), (refl, refl))
 
 -- the first bit of a stuffed byte is that of its digits, all bytes of it counted
-opened-stuffed : (v : ℕ) (d : List ℕ) (n : ℕ) → nextByte (stuffed v d) n ≡ takeBit (source (digits 8 v) d (n + length (stuffed v [])))
-unfolding stuffed takeBit takeFrom nextByte afterFF opened digits
+opened-stuffed : (v : ℕ) (d : List ℕ) (n : ℕ) → nextByte (stuffed v d) n ≡ takeFrom (digits 8 v) d (n + length (stuffed v []))
+unfolding stuffed takeFrom nextByte afterFF opened digits
 opened-stuffed v d n = go (eqb v 255) refl
   where
-    go : (t : Bool) → eqb v 255 ≡ t → nextByte (stuffed v d) n ≡ takeBit (source (digits 8 v) d (n + length (stuffed v [])))
+    go : (t : Bool) → eqb v 255 ≡ t → nextByte (stuffed v d) n ≡ takeFrom (digits 8 v) d (n + length (stuffed v []))
     go true q = rw (eqb-true v 255 q)
     go false q = rw (q, stuffed) (rw q)
 
-byte-gives : (v : ℕ) (b : Bool) (a r : List Bool) (d : List ℕ) (n : ℕ) → digits 8 v ≡ (b ∷ a) ++ r
-    → Gives (source [] (stuffed v d) n) (b ∷ a) (source r d (n + length (stuffed v [])))
+-- of the byte that comes next
+byte-opened : (s : Source) (v : ℕ) (b : Bool) (rest : List Bool) (d : List ℕ) → digits 8 v ≡ b ∷ rest → Unread s [] (stuffed v d) → (t : Source) × (takeBit s ≡ got b t) × Unread t rest d
 unfolding takeBit takeFrom
-byte-gives v b a r d n e =
-    (source (a ++ r) d (n + length (stuffed v [])), opened-stuffed v d n ∙ ap (λ (p : List Bool). takeBit (source p d (n + length (stuffed v [])))) e, in-hand a r d (n + length (stuffed v [])))
+byte-opened s v b rest d e h =
+    let n : ℕ = s .seen + length (stuffed v []) in
+    (source rest d n, rw (h .0, h .1) (opened-stuffed v d (s .seen) ∙ ap (λ (p : List Bool). takeFrom p d n) e), (refl, refl))
 
-stuffed-length : (v : ℕ) (d : List ℕ) → length (stuffed v d) ≡ length (stuffed v []) + length d
-unfolding stuffed
-stuffed-length v d = go (eqb v 255)
-  where
-    go : (t : Bool) → length (cond t (255 ∷ 0 ∷ d) (v ∷ d)) ≡ length (cond t (255 ∷ 0 ∷ []) (v ∷ [])) + length d
-    go true = omega arith
-    go false = omega arith
+-- ---- a byte
 
-whole-byte : (v : ℕ) (d : List ℕ) (n : ℕ) → Gives (source [] (stuffed v d) n) (digits 8 v) (source [] d (n + length (stuffed v [])))
+pub in-hand : (a r : List Bool) (d : List ℕ) (s : Source) → Unread s (a ++ r) d → (u : Source) × Gives s a u × Unread u r d
+in-hand [] r d s h = (s, refl, h)
+in-hand (b ∷ a) r d s h =
+    let t = bit-in-hand s b (a ++ r) d h in
+    let u = in-hand a r d (t .0) (t .2) in
+    (u .0, (t .0, t .1, u .1), u .2)
+
+byte-gives : (v : ℕ) (b : Bool) (a r : List Bool) (d : List ℕ) (s : Source) → digits 8 v ≡ (b ∷ a) ++ r → Unread s [] (stuffed v d) → (u : Source) × Gives s (b ∷ a) u × Unread u r d
+byte-gives v b a r d s e h =
+    let t = byte-opened s v b (a ++ r) d e h in
+    let u = in-hand a r d (t .0) (t .2) in
+    (u .0, (t .0, t .1, u .1), u .2)
+
+whole-byte : (v : ℕ) (d : List ℕ) (s : Source) → Unread s [] (stuffed v d) → (u : Source) × Gives s (digits 8 v) u × Unread u [] d
 unfolding digits
-whole-byte v d n = byte-gives v (odd (v / 2 ^ 7)) (digits 7 v) [] d n (sym (append-nil (digits 8 v)))
+whole-byte v d s h = byte-gives v (odd (v / 2 ^ 7)) (digits 7 v) [] d s (sym (append-nil (digits 8 v))) h
 
-last-byte : (c m q n : ℕ) → suc q + m ≡ 7 → Gives (source [] (stuffed (padded c m) []) n) (digits (suc q) c) (source (replicate (suc m) true) [] (n + length (stuffed (padded c m) [])))
+last-byte : (c m q : ℕ) (s : Source) → suc q + m ≡ 7 → Unread s [] (stuffed (padded c m) []) → (u : Source) × Gives s (digits (suc q) c) u × Unread u (replicate (suc m) true) []
 unfolding digits
-last-byte c m q n h =
-    byte-gives (padded c m) (odd (c / 2 ^ q)) (digits q c) (replicate (suc m) true) [] n
-    (subst (λ (k : ℕ). digits (suc k) (padded c m) ≡ digits (suc q) c ++ replicate (suc m) true) h (padded-digits c m (suc q)))
+last-byte c m q s e h =
+    byte-gives (padded c m) (odd (c / 2 ^ q)) (digits q c) (replicate (suc m) true) [] s
+    (subst (λ (k : ℕ). digits (suc k) (padded c m) ≡ digits (suc q) c ++ replicate (suc m) true) e (padded-digits c m (suc q))) h
 
 -- ---- all bytes: the bits already in the byte in hand, and then those that follow
 
-packed-says : (bits : List Bool) (c m q n : ℕ) → q + m ≡ 7 → Says (packed c m bits) n (digits q c ++ bits)
-unfolding packed
-packed-says [] c m zero n h = let e : m ≡ 7 = omega arith in let z : n + 0 ≡ n = omega arith in rw (e, digits-none c, z) (0, omega arith, refl)
-packed-says [] c m (suc q) n h =
-    let e : eqb m 7 ≡ false = ne-eqb m 7 (omega arith) in
-    rw (e, append-nil (digits (suc q) c)) (suc m, omega arith, last-byte c m q n h)
-packed-says (b ∷ bits) c zero q n h =
-    let e : q ≡ 7 = omega arith in
-    let w : ℕ = 2 * c + bin b in
-    let k : ℕ = n + length (stuffed w []) in
-    let r : Says (packed 0 7 bits) k bits = rw (digits-none 0) at (packed-says bits 0 7 0 k refl) in
-    let l : n + length (stuffed w (packed 0 7 bits)) ≡ k + length (packed 0 7 bits) = omega (arith, stuffed-length w (packed 0 7 bits)) in
-    rw (e, ← (append-snoc (digits 7 c) b bits), ← (digits-snoc 7 c b), l)
-    (r .0, r .1, gives-then (source [] (stuffed w (packed 0 7 bits)) n) (digits 8 w) bits (source [] (packed 0 7 bits) k) (source (replicate (r .0) true) [] (k + length (packed 0 7 bits))) (whole-byte w (packed 0 7 bits) n) (r .2))
-packed-says (b ∷ bits) c (suc m) q n h =
-    rw (← (append-snoc (digits q c) b bits), ← (digits-snoc q c b)) (packed-says bits (2 * c + bin b) m (suc q) n (omega arith))
+-- a byte before bytes that say the rest
+byte-says : (w : ℕ) (d : List ℕ) (bits : List Bool) → Says d bits → Says (stuffed w d) (digits 8 w ++ bits)
+byte-says w d bits more = record {
+  from = λ s h.
+      let t = whole-byte w d s h in
+      let u = more .from (t .0) (t .2) in
+      (u .0, u .1, u .2, gives-then s (digits 8 w) bits (t .0) (u .1) (t .1) (u .3), u .4);
+}
 
-pub bytes-say : (bits : List Bool) → Says (bytesOf bits) 0 bits
-bytes-say bits = rw (digits-none 0) at (packed-says bits 0 7 0 0 refl)
+none-says : Says [] []
+none-says = record { from = λ s h. (0, s, omega arith, refl, h) }
+
+last-says : (c m q : ℕ) → suc q + m ≡ 7 → Says (stuffed (padded c m) []) (digits (suc q) c)
+last-says c m q e = record {
+  from = λ s h.
+      let u = last-byte c m q s e h in
+      (suc m, u .0, omega arith, u .1, u .2);
+}
+
+full-says : (b : Bool) (bits : List Bool) (c q : ℕ) → q ≡ 7 → Says (packed 0 7 bits) (digits 0 0 ++ bits) → Says (packed c 0 (b ∷ bits)) (digits q c ++ (b ∷ bits))
+unfolding packed
+full-says b bits c q e more =
+    rw (e, ← (append-snoc (digits 7 c) b bits), ← (digits-snoc 7 c b)) (byte-says (2 * c + bin b) (packed 0 7 bits) bits (rw (digits-none 0) at more))
+
+packed-says : (bits : List Bool) (c m q : ℕ) → q + m ≡ 7 → Says (packed c m bits) (digits q c ++ bits)
+unfolding packed
+packed-says [] c m zero e = let z : m ≡ 7 = omega arith in rw (z, digits-none c) none-says
+packed-says [] c m (suc q) e =
+    let z : eqb m 7 ≡ false = ne-eqb m 7 (omega arith) in
+    rw (z, append-nil (digits (suc q) c)) (last-says c m q e)
+packed-says (b ∷ bits) c zero q e = full-says b bits c q (omega arith) (packed-says bits 0 7 0 refl)
+packed-says (b ∷ bits) c (suc m) q e =
+    rw (← (append-snoc (digits q c) b bits), ← (digits-snoc q c b)) (packed-says bits (2 * c + bin b) m (suc q) (omega arith))
+
+pub bytes-say : (bits : List Bool) → Says (bytesOf bits) bits
+bytes-say bits = rw (digits-none 0) at (packed-says bits 0 7 0 refl)
 
 -- and nothing but padding is left then
 every-ones : (n : ℕ) → every (replicate n true) ≡ true
@@ -119,6 +146,17 @@ unfolding every
 every-ones zero = refl
 every-ones (suc n) = every-ones n
 
-pub padding-left : (pad seen : ℕ) → onlyPadding (source (replicate pad true) [] seen) ≡ true
+pub padding-left : (u : Source) (pad : ℕ) → Unread u (replicate pad true) [] → onlyPadding u ≡ true
 unfolding onlyPadding
-padding-left pad seen = rw (every-ones pad)
+padding-left u pad h = rw (h .0, h .1, every-ones pad)
+
+-- ---- "bytes read": what was read and what is coming are always the whole
+
+bit-counted : (s : Source) (b : Bool) (t : Source) → Took s (got b t) → t .seen + length (t .coming) ≡ s .seen + length (s .coming)
+bit-counted s b t (inl h) = let d = ap length (h .coming) in omega (arith, h .seen)
+bit-counted s b t (inr (inl h)) = let d = ap length (h .coming) in omega (arith, h .seen)
+bit-counted s b t (inr (inr h)) = let d = ap length (h .coming) in omega (arith, h .seen)
+
+pub counted : (s : Source) (bits : List Bool) (u : Source) → Gives s bits u → u .seen + length (u .coming) ≡ s .seen + length (s .coming)
+counted s [] u g = rw g
+counted s (b ∷ bits) u g = counted (g .0) bits u (g .2) ∙ bit-counted s b (g .0) (subst (Took s) (g .1) (took s))

@@ -1,18 +1,20 @@
 -- What a reading says of the words: the converse of `code-trip`, and the same of "no code". Assumes nothing.
-use mathlib.Core.Path.{_≡_, refl, sym, ap, _∙_}
+use mathlib.Core.Path.{_≡_, refl, sym, ap, subst, _∙_}
+use mathlib.Core.Logic.{inl, inr}
 use mathlib.Core.Bool.{Bool, true, false, cond}
 use mathlib.Core.List.{List, [], _∷_, _++_}
 use Prim.Native.Nat.{ℕ, zero, suc, _+_, _-_, _*_, _/_, _^_, _≤_, _<_}
 use native.Mathlib.Omega.{arith}
-use lib.Dec.{eqb, ltb}
+use lib.Dec.{ltb}
 use lib.ListN.{length, getD, drop}
 use lib.Seq.{getD-drop}
 use borrow.Author.Tests.{ltb-true, ltb-false, lt-ltb, le-ltb}
 use Rattle.bit_rules.specs.Digits.{bin, digits}
-use Rattle.bit_rules.specs.Source.{Source, Out, got, stopped, stop, takeBit, takeFrom, nextByte, afterFF, opened}
+use Rattle.bit_rules.specs.Source.{Source, Out, got, stopped, stop, takeBit}
 use Rattle.bit_rules.specs.declared.Stop.{Stop}
 use Rattle.bit_rules.specs.Reader.{andThen, done}
 use Rattle.bit_rules.specs.Gives.{Gives}
+use Rattle.bit_rules.proofs.Took.{Took, took}
 use Rattle.bit_rules.proofs.Trip.{gives-split, odd-bin}
 use Rattle.bit_rules.proofs.Digits.{digits-length, bin-small}
 use Rattle.bit_rules.specs.Table.{Table, codeCount, goodTable}
@@ -129,59 +131,47 @@ read-word T g v s u e =
 
 -- ---- no code
 
--- a bit that is not there is 12 or 13
-not-14 : {A : Type 0} (n : ℕ) → (n ≡ 14 → ⊥) → _≡_ {A = Out A} (stopped (stop n)) (stopped (stop 14)) → ⊥
-not-14 n h e = let q : stop n ≡ stop 14 = cc in h (ap (λ (x : Stop). x .number) q)
+-- a stop has its number
+told : {A : Type 0} (n : ℕ) (x : Stop) → _≡_ {A = Out A} (stopped (stop n)) (stopped x) → x .number ≡ n
+told n x e = let q : stop n ≡ x = cc in rw (← q)
 
-byte-stops : (coming : List ℕ) (seen : ℕ) → nextByte coming seen ≡ stopped (stop 14) → ⊥
-unfolding nextByte afterFF opened
-byte-stops [] seen e = not-14 12 (λ z. omega arith) e
-byte-stops (byte ∷ coming) seen e = go (eqb byte 255) coming e
+bit-stops : (s : Source) (x : Stop) → takeBit s ≡ stopped x → x .number ≡ 14 → ⊥
+bit-stops s x e n = go (subst (Took s) e (took s))
   where
-    go : (c : Bool) (l : List ℕ) → cond c (afterFF l seen) (opened byte l (seen + 1)) ≡ stopped (stop 14) → ⊥
-    go true [] e = not-14 12 (λ z. omega arith) e
-    go true (zero ∷ l) e = no-stop e
-    go true (suc v ∷ l) e = not-14 13 (λ z. omega arith) e
-    go false l e = no-stop e
-
-from-stops : (pending : List Bool) (coming : List ℕ) (seen : ℕ) → takeFrom pending coming seen ≡ stopped (stop 14) → ⊥
-unfolding takeFrom
-from-stops [] coming seen e = byte-stops coming seen e
-from-stops (b ∷ pending) coming seen e = no-stop e
-
-bit-stops : (s : Source) → takeBit s ≡ stopped (stop 14) → ⊥
-unfolding takeBit
-bit-stops s e = from-stops (s .pending) (s .coming) (s .seen) e
+    go : Took s (stopped x) → ⊥
+    go (inl h) = omega arith
+    go (inr h) = omega arith
 
 -- all lengths were passed: so many bits were taken
-none-taken : (ns vs : List ℕ) (over : ℕ) (s : Source) → codeFrom ns vs over s ≡ stopped (stop 14) → (bits : List Bool) × (t : Source) × (length bits ≡ length ns) × Gives s bits t
-unfolding codeFrom
-none-taken [] vs over s e = ([], s, refl, refl)
-none-taken (n ∷ ns) vs over s e = first (takeBit s) refl e (λ b t f. none-taken ns (drop n vs) (2 * over + bin b - n) t f)
-  where
-    second : (b : Bool) (t : Source) → takeBit s ≡ got b t → (c : Bool)
-        → cond c (done (getD vs (2 * over + bin b) 0)) (codeFrom ns (drop n vs) (2 * over + bin b - n)) t ≡ stopped (stop 14)
-        → (codeFrom ns (drop n vs) (2 * over + bin b - n) t ≡ stopped (stop 14) → (bits : List Bool) × (u : Source) × (length bits ≡ length ns) × Gives t bits u)
-        → (bits : List Bool) × (u : Source) × (length bits ≡ length (n ∷ ns)) × Gives s bits u
-    second b t p true q ih = absurd (no-stop q)
-    second b t p false q ih = let r = ih q in (b ∷ r .0, r .1, ap suc (r .2), (t, p, r .3))
+module _ (x : Stop) (fourteen : x .number ≡ 14) where
+  none-taken : (ns vs : List ℕ) (over : ℕ) (s : Source) → codeFrom ns vs over s ≡ stopped x → (bits : List Bool) × (t : Source) × (length bits ≡ length ns) × Gives s bits t
+  unfolding codeFrom
+  none-taken [] vs over s e = ([], s, refl, refl)
+  none-taken (n ∷ ns) vs over s e = first (takeBit s) refl e (λ b t f. none-taken ns (drop n vs) (2 * over + bin b - n) t f)
+    where
+      second : (b : Bool) (t : Source) → takeBit s ≡ got b t → (c : Bool)
+          → cond c (done (getD vs (2 * over + bin b) 0)) (codeFrom ns (drop n vs) (2 * over + bin b - n)) t ≡ stopped x
+          → (codeFrom ns (drop n vs) (2 * over + bin b - n) t ≡ stopped x → (bits : List Bool) × (u : Source) × (length bits ≡ length ns) × Gives t bits u)
+          → (bits : List Bool) × (u : Source) × (length bits ≡ length (n ∷ ns)) × Gives s bits u
+      second b t p true q ih = absurd (no-stop q)
+      second b t p false q ih = let r = ih q in (b ∷ r .0, r .1, ap suc (r .2), (t, p, r .3))
 
-    first : (r : Out Bool) → takeBit s ≡ r → andThen (stepped ns vs n over) r ≡ stopped (stop 14)
-        → ((b : Bool) (t : Source) → codeFrom ns (drop n vs) (2 * over + bin b - n) t ≡ stopped (stop 14) → (bits : List Bool) × (u : Source) × (length bits ≡ length ns) × Gives t bits u)
-        → (bits : List Bool) × (u : Source) × (length bits ≡ length (n ∷ ns)) × Gives s bits u
-    first (got b t) p q ih = second b t p (ltb (2 * over + bin b) n) q (ih b t)
-    first (stopped x) p q ih = let k : x ≡ stop 14 = cc in absurd (bit-stops s (p ∙ ap (λ (y : Stop). stopped y) k))
+      first : (r : Out Bool) → takeBit s ≡ r → andThen (stepped ns vs n over) r ≡ stopped x
+          → ((b : Bool) (t : Source) → codeFrom ns (drop n vs) (2 * over + bin b - n) t ≡ stopped x → (bits : List Bool) × (u : Source) × (length bits ≡ length ns) × Gives t bits u)
+          → (bits : List Bool) × (u : Source) × (length bits ≡ length (n ∷ ns)) × Gives s bits u
+      first (got b t) p q ih = second b t p (ltb (2 * over + bin b) n) q (ih b t)
+      first (stopped y) p q ih = let k : y ≡ x = cc in absurd (bit-stops s x (p ∙ ap (λ (z : Stop). stopped z) k) fourteen)
 
 -- where there are bits for all lengths, nothing else stops the reading
-stops-none : (ns vs : List ℕ) (over : ℕ) (s t : Source) (bits : List Bool) (x : Stop) → length bits ≡ length ns → Gives s bits t → codeFrom ns vs over s ≡ stopped x → stop 14 ≡ x
+stops-none : (ns vs : List ℕ) (over : ℕ) (s t : Source) (bits : List Bool) (x : Stop) → length bits ≡ length ns → Gives s bits t → codeFrom ns vs over s ≡ stopped x → x .number ≡ 14
 unfolding codeFrom
-stops-none [] vs over s t bits x l g e = cc
+stops-none [] vs over s t bits x l g e = told 14 x e
 stops-none (n ∷ ns) vs over s t [] x l g e = absurd (omega arith)
 stops-none (n ∷ ns) vs over s t (b ∷ bits) x l g e =
     second (ltb (2 * over + bin b) n) (rw (g .1) at e) (λ f. stops-none ns (drop n vs) (2 * over + bin b - n) (g .0) t bits x (omega arith) (g .2) f)
   where
     second : (c : Bool) → cond c (done (getD vs (2 * over + bin b) 0)) (codeFrom ns (drop n vs) (2 * over + bin b - n)) (g .0) ≡ stopped x
-        → (codeFrom ns (drop n vs) (2 * over + bin b - n) (g .0) ≡ stopped x → stop 14 ≡ x) → stop 14 ≡ x
+        → (codeFrom ns (drop n vs) (2 * over + bin b - n) (g .0) ≡ stopped x → x .number ≡ 14) → x .number ≡ 14
     second true q ih = absurd (no-stop q)
     second false q ih = ih q
 
@@ -198,10 +188,10 @@ begins s (x ∷ a) (y ∷ b) t u f g h =
 -- ---- the law
 
 module _ (T : Table) (g : goodTable T ≡ true) where
-  none-read : (s : Source) → takeCode T s ≡ stopped (stop 14) → (bits : List Bool) × (t : Source) × (length bits ≡ 16) × Gives s bits t × NoWord T bits
+  none-read : (s : Source) (x : Stop) → takeCode T s ≡ stopped x → x .number ≡ 14 → (bits : List Bool) × (t : Source) × (length bits ≡ 16) × Gives s bits t × NoWord T bits
   unfolding takeCode
-  none-read s e =
-      let r = none-taken (T .counts) (T .values) 0 s e in (
+  none-read s x e n =
+      let r = none-taken x n (T .counts) (T .values) 0 s e in (
         r .0,
         r .1,
         r .2 ∙ good T g .sixteen,
@@ -211,21 +201,21 @@ module _ (T : Table) (g : goodTable T ≡ true) where
             no-stop (sym (code-trip T v (h .0) s (p .0) g (h .1) (p .1)) ∙ e),
       )
 
-  none-reads : (s t : Source) (bits : List Bool) → length bits ≡ 16 → Gives s bits t → NoWord T bits → takeCode T s ≡ stopped (stop 14)
+  none-reads : (s t : Source) (bits : List Bool) → length bits ≡ 16 → Gives s bits t → NoWord T bits → (x : Stop) × (takeCode T s ≡ stopped x) × (x .number ≡ 14)
   unfolding takeCode
   none-reads s t bits l f w = go (takeCode T s) refl
     where
-      go : (r : Out ℕ) → takeCode T s ≡ r → takeCode T s ≡ stopped (stop 14)
+      go : (r : Out ℕ) → takeCode T s ≡ r → (x : Stop) × (takeCode T s ≡ stopped x) × (x .number ≡ 14)
       go (got v u) e =
           let r = read-word T g v s u e in
           let b = begins s (word T v) bits u t (r .1) f (omega (arith, r .2)) in
           absurd (w v (b .0) (r .0) (b .1))
-      go (stopped x) e = e ∙ ap (λ (y : Stop). stopped y) (sym (stops-none (T .counts) (T .values) 0 s t bits x (l ∙ sym (good T g .sixteen)) f e))
+      go (stopped x) e = (x, e, stops-none (T .counts) (T .values) 0 s t bits x (l ∙ sym (good T g .sixteen)) f e)
 
   pub by-words : ReadByWords T
   by-words = record {
     read = λ v s t e. let r = read-word T g v s t e in (r .0, r .1);
     reads = λ v s t h. code-trip T v (h .0 .0) s t g (h .0 .1) (h .1);
-    none = none-read;
-    nones = none-reads;
+    missed = none-read;
+    misses = none-reads;
   }

@@ -7,3 +7,4 @@ pub mod Table
 pub mod Words
 pub mod Write
 pub mod Reader
+pub mod Number

@@ -53,10 +53,10 @@ unfoldable pub takeBit : Source → Out Bool
 takeBit s = takeFrom (s .pending) (s .coming) (s .seen)
 
 -- B6: "After the last block the unread bits of the byte must be ones and no byte may follow."
-abbrev pub none : List ℕ → Bool
-none [] = true
-none (byte ∷ bytes) = false
+abbrev pub noByte : List ℕ → Bool
+noByte [] = true
+noByte (byte ∷ bytes) = false
 
 -- B6: "the unread bits of the byte must be ones", and no byte follows
 unfoldable pub onlyPadding : Source → Bool
-onlyPadding s = cond (every (s .pending)) (none (s .coming)) false
+onlyPadding s = cond (every (s .pending)) (noByte (s .coming)) false

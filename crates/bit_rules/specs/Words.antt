@@ -5,7 +5,8 @@ use mathlib.Core.List.{List, _++_}
 use Prim.Native.Nat.{ℕ}
 use lib.ListN.{length}
 use Rattle.laws.specs.declared.Found.the-variants.{At}
-use Rattle.bit_rules.specs.Source.{Source, got, stopped, stop}
+use Rattle.bit_rules.specs.Source.{Source, got, stopped}
+use Rattle.bit_rules.specs.declared.Stop.{Stop}
 use Rattle.bit_rules.specs.Gives.{Gives}
 use Rattle.bit_rules.specs.Table.{Table}
 use Rattle.bit_rules.specs.Read.{takeCode}
@@ -23,5 +24,5 @@ NoWord T bits = (v : ℕ) (rest : List Bool) → Has T v → bits ≡ word T v +
 pub record ReadByWords (T : Table) : Type 0 where
   pub read : (v : ℕ) (s t : Source) → takeCode T s ≡ got v t → Has T v × Gives s (word T v) t
   pub reads : (v : ℕ) (s t : Source) → Has T v × Gives s (word T v) t → takeCode T s ≡ got v t
-  pub none : (s : Source) → takeCode T s ≡ stopped (stop 14) → (bits : List Bool) × (t : Source) × (length bits ≡ 16) × Gives s bits t × NoWord T bits
-  pub nones : (s t : Source) (bits : List Bool) → length bits ≡ 16 → Gives s bits t → NoWord T bits → takeCode T s ≡ stopped (stop 14)
+  pub missed : (s : Source) (x : Stop) → takeCode T s ≡ stopped x → x .number ≡ 14 → (bits : List Bool) × (t : Source) × (length bits ≡ 16) × Gives s bits t × NoWord T bits
+  pub misses : (s t : Source) (bits : List Bool) → length bits ≡ 16 → Gives s bits t → NoWord T bits → (x : Stop) × (takeCode T s ≡ stopped x) × (x .number ≡ 14)

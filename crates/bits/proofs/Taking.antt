@@ -13,7 +13,7 @@ use borrow.Author.Tests.{eq-eqb, ne-eqb}
 use Rattle.laws.specs.Index.{every}
 use Rattle.laws.proofs.Lists.{each}
 use Rattle.bit_rules.specs.Digits.{digits}
-use Rattle.bit_rules.specs.Source.{start, stopped, stop, takeBit, takeFrom, nextByte, afterFF, opened, none, onlyPadding}
+use Rattle.bit_rules.specs.Source.{start, stopped, stop, takeBit, takeFrom, nextByte, afterFF, opened, noByte, onlyPadding}
 use Rattle.bits.specs.Code.{highs, topOf, unread, takenOf, sourceOf}
 use Rattle.bits.specs.declared.Cursor.{Cursor}
 
@@ -125,7 +125,7 @@ pub ones-end : (n byte : ℕ) → n ≤ 0 → true ≡ every (highs n byte)
 unfolding every highs
 ones-end n byte h = let e : n ≡ 0 = omega arith in rw e
 
-none-left : (bytes : List ℕ) (at : ℕ) → leb (length bytes) at ≡ none (drop at bytes)
+none-left : (bytes : List ℕ) (at : ℕ) → leb (length bytes) at ≡ noByte (drop at bytes)
 none-left [] zero = refl
 none-left [] (suc at) = leb·zero (suc at)
 none-left (x ∷ bytes) zero = leb·suc-zero (length bytes)

@@ -12,10 +12,11 @@ use Rattle.answers.specs.declared.Refusal.{Refusal}
 use Rattle.bit_rules.specs.Source.{Source, Out, got, stopped, takeBit, onlyPadding}
 use Rattle.bit_rules.specs.Reader.{andThen, done}
 use Rattle.bit_rules.specs.Table.{Table}
-use Rattle.plane_rules.specs.Plane.{Plane, read, broken, onto, inBlock}
+use Rattle.plane_rules.specs.Plane.{Plane, read, refusing, onto, inBlock}
 use Rattle.plane_rules.specs.Dc.{newDc, dcBlocks}
 use Rattle.plane_rules.specs.Task.{Task}
 use Rattle.plane_rules.specs.AcRead.{acBlock, acBlocks}
+use Rattle.plane_rules.proofs.DcBlocks.{dc-first}
 use Rattle.demands.specs.Blocks.{Behind, begun, further, StopsAt, LeftOver, oneDc, oneAc}
 
 -- how the blocks of a plane ended: with these data left, or with a refusal
@@ -25,7 +26,7 @@ pub data End : Type 0 where
 
 abbrev pub endOf : Plane → End
 endOf (read values s) = over s
-endOf (broken r) = halted r
+endOf (refusing r) = halted r
 
 pub over-halted : {s : Source} {r : Refusal} → over s ≡ halted r → ⊥
 over-halted e = let z : _≡_ {A = ℕ} 0 1 = cc in omega arith
@@ -39,7 +40,7 @@ halted-one {r} {n} {p} e = let same : r ≡ refusal n p = cc in rw same (refl, r
 end-onto : (values : List ℤ) (p : Plane) → endOf (onto values p) ≡ endOf p
 unfolding onto
 end-onto values (read more s) = refl
-end-onto values (broken r) = refl
+end-onto values (refusing r) = refl
 
 -- one block, and how it goes on
 abbrev went : {A : Type 0} → ℕ → (A → Source → End) → Out A → End
@@ -101,8 +102,7 @@ unfolding dcBlocks
 dc-nil k u s = refl
 
 dc-cons : (k : ℕ) (u : Unit {0}) (c : ℤ) (values : List ℤ) (s : Source) → endOf (dcBlocks k (c ∷ values) s) ≡ went k (λ v t. endOf (dcBlocks (suc k) values t)) (oneDc u c values s)
-unfolding dcBlocks
-dc-cons k u c values s = go (takeBit s)
+dc-cons k u c values s = ap endOf (dc-first k c values s) ∙ go (takeBit s)
   where
     go : (o : Out Bool) → endOf (inBlock k (λ b t. onto (newDc c b ∷ []) (dcBlocks (suc k) values t)) o) ≡ went k (λ v t. endOf (dcBlocks (suc k) values t)) (andThen (λ (b : Bool). done (tt {0})) o)
     go (got b t) = end-onto (newDc c b ∷ []) (dcBlocks (suc k) values t)

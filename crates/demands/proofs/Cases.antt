@@ -9,7 +9,8 @@ use Rattle.bit_rules.specs.Table.{codeCount, kraft, holds, distinct, goodTable}
 use Rattle.bit_rules.specs.Read.{codeFrom, takeCode}
 use Rattle.plane_rules.specs.Plane.{onto, closed}
 use Rattle.plane_rules.specs.Dc.{newDc, dcBlocks, readDc}
-use Rattle.plane_rules.specs.AcRead.{takeNumber, endRun, meaning, taskAt, position, blockEnd, acBlock, cut, acBlocks, readAc}
+use Rattle.bit_rules.specs.Number.{takeNumber}
+use Rattle.plane_rules.specs.AcRead.{endRun, meaning, taskAt, position, blockEnd, acBlock, cut, acBlocks, readAc}
 use Rattle.box_rules.specs.Walk.{be16, be32, headAt, ones, barred, tagged, packetAt, wholeAt, sizedAt, markedAt, stepAt, stepsIn, stepsFrom, begins, walk, ending}
 use Rattle.box_rules.specs.Packets.{packetsIn, packets, isMine, mine}
 use Rattle.box_rules.specs.Numbers.{numbers, count, least, firstTwice, missingFrom, firstMissing}

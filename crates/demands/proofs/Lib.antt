@@ -9,5 +9,6 @@ pub mod Planes
 pub mod Held
 pub mod Three
 pub mod Cases
+pub mod Srgb
 pub mod Shams
 pub mod Written

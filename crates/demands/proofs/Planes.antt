@@ -1,25 +1,25 @@
 -- Demand 2's refined coefficients, value by value. Assumes nothing.
-use mathlib.Core.Path.{_≡_, refl, sym, ap, _∙_}
-use mathlib.Core.Bool.{Bool, true, false, cond}
+use mathlib.Core.Path.{_≡_, refl, sym, ap, subst, _∙_}
+use mathlib.Core.Logic.{inl, inr}
+use mathlib.Core.Bool.{Bool, true, false}
 use mathlib.Core.List.{List, [], _∷_, _++_, map, map-append}
 use mathlib.Core.Option.{Option, none, some}
 use Prim.Native.Nat.{ℕ, zero, suc, _+_, _*_, _/_, _<_}
 use native.Mathlib.Omega.{arith}
-use borrow.Author.Tests.{eqb-true}
-use lib.Dec.{eqb}
 use lib.IntN.{ℤ, pos, negsuc}
 use lib.ListN.{length, getD, drop, length-drop, take-append-drop}
-use Rattle.bit_rules.specs.Digits.{digits}
-use Rattle.bit_rules.specs.Source.{Source, start, Out, got, stopped, opened, afterFF, nextByte, takeFrom, takeBit}
+use Rattle.bit_rules.specs.Source.{Source, start, Out, got, stopped, takeBit}
 use Rattle.bit_rules.specs.Reader.{Reader, andThen}
 use Rattle.bit_rules.specs.declared.Stop.{Stop}
 use Rattle.bit_rules.specs.Table.{Table}
-use Rattle.plane_rules.specs.Plane.{Plane, read, broken, onto, inBlock}
+use Rattle.bit_rules.proofs.Took.{Took, took}
+use Rattle.plane_rules.specs.Plane.{Plane, read, refusing, onto, inBlock}
 use Rattle.plane_rules.specs.Dc.{newDc, dcBlocks}
 use Rattle.plane_rules.specs.Task.{Task, walk, ended, atZero}
 use Rattle.plane_rules.specs.AcRead.{taskAt, corrected, position, blockEnd, acBlock, cut, acBlocks}
 use Rattle.plane_rules.specs.Levels.{towardZero}
 use Rattle.answers.specs.declared.Refusal.{Refusal}
+use Rattle.plane_rules.proofs.DcBlocks.{dc-first}
 use Rattle.demands.specs.Written.{together}
 use Rattle.demands.specs.Two.{carrying, allBits, DcValuesAre, AcValuesAre}
 
@@ -35,35 +35,19 @@ got-both e = (cc, cc)
 pub stopped-got : {A : Type 0} {b : A} {x : Stop} {t : Source} → stopped x ≡ got b t → ⊥
 stopped-got e = let z : _≡_ {A = ℕ} 0 1 = cc in omega arith
 
--- a byte that was opened: its first bit, and the others
-opened-bits : (byte : ℕ) (coming : List ℕ) (seen : ℕ) (b : Bool) (t : Source) → opened byte coming seen ≡ got b t → digits 8 byte ++ allBits (carrying false coming) ≡ b ∷ bitsLeft t
-unfolding opened digits
-opened-bits byte coming seen b t e = let h = got-both e in rw (← h .0, ← h .1)
-
-ff-bits : (coming : List ℕ) (seen : ℕ) (b : Bool) (t : Source) → afterFF coming seen ≡ got b t → digits 8 255 ++ allBits (carrying true coming) ≡ b ∷ bitsLeft t
-unfolding afterFF carrying
-ff-bits [] seen b t e = absurd (stopped-got e)
-ff-bits (zero ∷ coming) seen b t e = opened-bits 255 coming (seen + 2) b t e
-ff-bits (suc v ∷ coming) seen b t e = absurd (stopped-got e)
-
-bit-from : (pending : List Bool) (coming : List ℕ) (seen : ℕ) (b : Bool) (t : Source) → takeFrom pending coming seen ≡ got b t → pending ++ allBits (carrying false coming) ≡ b ∷ bitsLeft t
-unfolding takeFrom nextByte carrying allBits
-bit-from [] [] seen b t e = absurd (stopped-got e)
-bit-from [] (byte ∷ coming) seen b t e = go (eqb byte 255) refl e
-  where
-    go : (q : Bool) → eqb byte 255 ≡ q → cond q (afterFF coming seen) (opened byte coming (seen + 1)) ≡ got b t → digits 8 byte ++ allBits (carrying q coming) ≡ b ∷ bitsLeft t
-    go true q h = rw (eqb-true byte 255 q) (ff-bits coming seen b t h)
-    go false q h = opened-bits byte coming (seen + 1) b t h
-bit-from (c ∷ pending) coming seen b t e = let h = got-both e in rw (← h .0, ← h .1)
-
 next-bit : (s : Source) (b : Bool) (t : Source) → takeBit s ≡ got b t → bitsLeft s ≡ b ∷ bitsLeft t
-unfolding takeBit
-next-bit s b t e = bit-from (s .pending) (s .coming) (s .seen) b t e
+unfolding carrying allBits
+next-bit s b t e = go (subst (Took s) e (took s))
+  where
+    go : Took s (got b t) → bitsLeft s ≡ b ∷ bitsLeft t
+    go (inl h) = rw (h .pending, h .coming)
+    go (inr (inl h)) = rw (h .pending, h .coming, h .plain, h .bits)
+    go (inr (inr h)) = rw (h .pending, h .coming, h .bits)
 
 -- ---- a plane that was read
 
-pub broken-read : {r : Refusal} {ys : List ℤ} {t : Source} → broken r ≡ read ys t → ⊥
-broken-read e = let z : _≡_ {A = ℕ} 0 1 = cc in omega arith
+pub refusing-read : {r : Refusal} {ys : List ℤ} {t : Source} → refusing r ≡ read ys t → ⊥
+refusing-read e = let z : _≡_ {A = ℕ} 0 1 = cc in omega arith
 
 -- values in front of those that follow
 pub record Fronted (values ys : List ℤ) (p : Plane) (t : Source) : Type 0 where
@@ -77,7 +61,7 @@ fronted values ys (read more s) t e =
     let q : values ++ more ≡ ys = cc in
     let r : s ≡ t = cc in
     record { rest = more; after = ap (read more) r; whole = sym q }
-fronted values ys (broken r) t e = absurd (broken-read e)
+fronted values ys (refusing r) t e = absurd (refusing-read e)
 
 -- ---- DC
 
@@ -85,7 +69,7 @@ dc-each : (values : List ℤ) (k : ℕ) (s : Source) (ys : List ℤ) (t : Source
     → (b : ℕ) → b < length values → getD ys b (pos 0) ≡ newDc (getD values b (pos 0)) (getD (bitsLeft s) b false)
 unfolding dcBlocks
 dc-each [] k s ys t e b h = absurd (omega arith)
-dc-each (v ∷ values) k s ys t e b h = go (dc-each values (suc k)) (takeBit s) refl e b h
+dc-each (v ∷ values) k s ys t e b h = go (dc-each values (suc k)) (takeBit s) refl (sym (dc-first k v values s) ∙ e) b h
   where
     at : (c : Bool) (u : Source) (rest : List ℤ) → ys ≡ (newDc v c ∷ []) ++ rest → bitsLeft s ≡ c ∷ bitsLeft u
         → ((b : ℕ) → b < length values → getD rest b (pos 0) ≡ newDc (getD values b (pos 0)) (getD (bitsLeft u) b false))
@@ -96,7 +80,7 @@ dc-each (v ∷ values) k s ys t e b h = go (dc-each values (suc k)) (takeBit s) 
     go : ((s : Source) (ys : List ℤ) (t : Source) → dcBlocks (suc k) values s ≡ read ys t → (b : ℕ) → b < length values → getD ys b (pos 0) ≡ newDc (getD values b (pos 0)) (getD (bitsLeft s) b false))
         → (o : Out Bool) → takeBit s ≡ o → inBlock k (λ b t. onto (newDc v b ∷ []) (dcBlocks (suc k) values t)) o ≡ read ys t
         → (b : ℕ) → b < suc (length values) → getD ys b (pos 0) ≡ newDc (getD (v ∷ values) b (pos 0)) (getD (bitsLeft s) b false)
-    go ih (stopped x) q e b h = absurd (broken-read e)
+    go ih (stopped x) q e b h = absurd (refusing-read e)
     go ih (got c u) q e b h =
         let f = fronted (newDc v c ∷ []) ys (dcBlocks (suc k) values u) t e in
         at c u (f .rest) (f .whole) (next-bit s c u q) (ih u (f .rest) t (f .after)) b h
@@ -179,7 +163,7 @@ module _ (codes : Table) where
       go : ((o : Option Task) (s : Source) (ys : List ℤ) (t : Source) → acBlocks codes (suc k) o bs s ≡ read ys t → map (towardZero 1) ys ≡ together bs)
           → (x : Out (List ℤ × Option Task)) → acBlock codes (suc (length bs)) o b s ≡ x
           → inBlock k (λ r t. onto (r .0) (acBlocks codes (suc k) (r .1) bs t)) x ≡ read ys t → map (towardZero 1) ys ≡ b ++ together bs
-      go ih (stopped x) q e = absurd (broken-read e)
+      go ih (stopped x) q e = absurd (refusing-read e)
       go ih (got r u) q e =
           let f = fronted (r .0) ys (acBlocks codes (suc k) (r .1) bs u) t e in
           rw (f .whole) (map-append (towardZero 1) (r .0) (f .rest) ∙ rw (half-block (suc (length bs)) b o s r u q, ih (r .1) u (f .rest) t (f .after)))

@@ -1,11 +1,12 @@
 -- With which numbers the readers of planes stop, in which block, and how many values and bytes they read. Assumes nothing.
-use mathlib.Core.Path.{_≡_, refl, sym, ap, _∙_}
+use mathlib.Core.Path.{_≡_, refl, sym, ap, subst, _∙_}
+use mathlib.Core.Logic.{inl, inr}
 use mathlib.Core.Bool.{Bool, true, false}
 use mathlib.Core.List.{List, [], _∷_}
 use mathlib.Core.Option.{Option, none, some}
 use Prim.Native.Nat.{ℕ, zero, suc, _+_, _-_, _*_, _/_, _%_, _^_, _≤_, _<_}
 use native.Mathlib.Omega.{arith}
-use lib.Dec.{T, eqb, ltb, leb}
+use lib.Dec.{T, ltb, leb}
 use lib.IntN.{ℤ, pos, negsuc}
 use lib.ListN.{length, take, drop, length-append, length-drop}
 use lib.Seq.{length-take-le}
@@ -13,14 +14,17 @@ use Rattle.laws.proofs.Choices.{by-test, true-false}
 use Rattle.answers.specs.Verdict.{given, refusal, need}
 use Rattle.answers.specs.declared.Refusal.{Refusal}
 use Rattle.bit_rules.specs.Digits.{bin}
-use Rattle.bit_rules.specs.Source.{Source, Out, got, stopped, opened, afterFF, nextByte, takeFrom, takeBit, onlyPadding}
+use Rattle.bit_rules.specs.Source.{Source, Out, got, stopped, takeBit, onlyPadding}
 use Rattle.bit_rules.specs.Reader.{Reader, andThen}
 use Rattle.bit_rules.specs.Table.{Table}
 use Rattle.bit_rules.specs.Read.{codeFrom, takeCode}
-use Rattle.plane_rules.specs.Plane.{Plane, read, broken, onto, inBlock, closed}
+use Rattle.bit_rules.proofs.Took.{Took, took}
+use Rattle.plane_rules.specs.Plane.{Plane, read, refusing, onto, inBlock, closed}
 use Rattle.plane_rules.specs.Dc.{newDc, dcBlocks}
 use Rattle.plane_rules.specs.Task.{Task, walk, ended}
-use Rattle.plane_rules.specs.AcRead.{takeNumber, endRun, meaning, taskAt, position, blockEnd, acBlock, cut, acBlocks}
+use Rattle.bit_rules.specs.Number.{takeNumber}
+use Rattle.plane_rules.specs.AcRead.{endRun, meaning, taskAt, position, blockEnd, acBlock, cut, acBlocks}
+use Rattle.plane_rules.proofs.DcBlocks.{dc-first}
 use Rattle.demands.specs.One.{stands, row, rows, _then_}
 use Rattle.demands.specs.Blocks.{StopsAt, LeftOver}
 use Rattle.demands.proofs.Rows.{Judged, gives, passed, told, told-last}
@@ -49,21 +53,15 @@ module _ (P : ℕ → Type 0) (all : ℕ) where
   onward Q R f (stopped x) h g = h
 
   module _ (p12 : P 12) (p13 : P 13) where
-    after-ff : (coming : List ℕ) (seen : ℕ) → seen + suc (length coming) ≡ all → Stops Any (afterFF coming seen)
-    unfolding afterFF opened
-    after-ff [] seen k = p12
-    after-ff (zero ∷ coming) seen k = (tt, omega arith)
-    after-ff (suc v ∷ coming) seen k = p13
-
-    bit-from : (pending : List Bool) (coming : List ℕ) (seen : ℕ) → seen + length coming ≡ all → Stops Any (takeFrom pending coming seen)
-    unfolding takeFrom nextByte opened
-    bit-from [] [] seen k = p12
-    bit-from [] (byte ∷ coming) seen k = by-test (Stops Any) (eqb byte 255) (λ e. after-ff coming seen k) (λ e. (tt, omega arith))
-    bit-from (b ∷ pending) coming seen k = (tt, k)
-
     bit : (s : Source) → Kept s → Stops Any (takeBit s)
-    unfolding takeBit
-    bit s k = bit-from (s .pending) (s .coming) (s .seen) k
+    bit s k = go (takeBit s) (took s)
+      where
+        go : (o : Out Bool) → Took s o → Stops Any o
+        go (got b t) (inl h) = let d = ap length (h .coming) in (tt, omega (arith, h .seen))
+        go (got b t) (inr (inl h)) = let d = ap length (h .coming) in (tt, omega (arith, h .seen))
+        go (got b t) (inr (inr h)) = let d = ap length (h .coming) in (tt, omega (arith, h .seen))
+        go (stopped x) (inl h) = rw h p12
+        go (stopped x) (inr h) = rw h p13
 
     module _ (p14 : P 14) (p15 : P 15) (p16 : P 16) (p17 : P 17) where
       code-from : (counts values : List ℕ) (so-far : ℕ) (s : Source) → Kept s → Stops Any (codeFrom counts values so-far s)
@@ -123,12 +121,12 @@ module _ (P : ℕ → Type 0) (all : ℕ) where
 
   abbrev pub Blocks : ℕ → ℕ → Plane → Type 0
   Blocks upto n (read values s) = (length values ≡ n) × Kept s
-  Blocks upto n (broken r) = P (r .number) × (r .place < upto)
+  Blocks upto n (refusing r) = P (r .number) × (r .place < upto)
 
   in-front : (upto n m : ℕ) (values : List ℤ) (p : Plane) → length values + n ≡ m → Blocks upto n p → Blocks upto m (onto values p)
   unfolding onto
   in-front upto n m values (read more s) e h = (length-append values more ∙ omega (arith, h .0), h .1)
-  in-front upto n m values (broken r) e h = h
+  in-front upto n m values (refusing r) e h = h
 
   in-block : {A : Type 0} (Q : A → Type 0) (upto n block : ℕ) (next : A → Source → Plane) (o : Out A) → block < upto → Stops Q o
       → ((a : A) → Q a → (s : Source) → Kept s → Blocks upto n (next a s)) → Blocks upto n (inBlock block next o)
@@ -139,8 +137,9 @@ module _ (P : ℕ → Type 0) (all : ℕ) where
   unfolding dcBlocks
   dc-blocks p12 p13 upto block [] s e k = (refl, k)
   dc-blocks p12 p13 upto block (c ∷ values) s e k =
-      in-block Any upto (suc (length values)) block _ (takeBit s) (omega arith) (bit p12 p13 s k) λ b h t l.
-      in-front upto (length values) (suc (length values)) (newDc c b ∷ []) (dcBlocks (suc block) values t) (omega arith) (dc-blocks p12 p13 upto (suc block) values t (omega arith) l)
+      subst (Blocks upto (suc (length values))) (sym (dc-first block c values s))
+      (in-block Any upto (suc (length values)) block _ (takeBit s) (omega arith) (bit p12 p13 s k) λ b h t l.
+      in-front upto (length values) (suc (length values)) (newDc c b ∷ []) (dcBlocks (suc block) values t) (omega arith) (dc-blocks p12 p13 upto (suc block) values t (omega arith) l))
 
   module _ (p12 : P 12) (p13 : P 13) (p14 : P 14) (p15 : P 15) (p16 : P 16) (p17 : P 17) where
     pub ac-blocks : (codes : Table) (upto block : ℕ) (o : Option Task) (bs : List (List ℤ)) (s : Source) → block + length bs ≡ upto → Kept s → Blocks upto (sizes bs) (acBlocks codes block o bs s)
@@ -168,7 +167,7 @@ module _ {A B : Type 0} (one : A → B → List B → Source → Out A) (o₀ : 
   closed-judged (read values s) l h f g f′ g′ =
       passed (λ m q k. over-halted (g m q (k .1)))
       (padded values s (omega (arith, h .0)) (f′ s refl) (λ q k. over-one (g′ q k)) (onlyPadding s) refl)
-  closed-judged (broken r) l h f g f′ g′ = told r (h .0, f r refl) (λ m q k. halted-one (g m q (k .1)))
+  closed-judged (refusing r) l h f g f′ g′ = told r (h .0, f r refl) (λ m q k. halted-one (g m q (k .1)))
 
 -- ---- blocks of 63 values
 

@@ -21,7 +21,7 @@ use Rattle.levels.specs.Level.{firstOutside}
 use Rattle.levels.specs.declared.Part.the-variants.{Dc, Ac, Whole}
 use Rattle.bit_rules.specs.Source.{Source, start, onlyPadding}
 use Rattle.bit_rules.specs.Table.{Table, goodTable}
-use Rattle.plane_rules.specs.Plane.{readable, writable, Plane, read, broken, closed}
+use Rattle.plane_rules.specs.Plane.{readable, writable, Plane, read, refusing, closed}
 use Rattle.plane_rules.specs.Dc.{dcBlocks, readDc, dcBytes, writeDc}
 use Rattle.plane_rules.specs.AcRead.{cut, acBlocks, readAc}
 use Rattle.plane_rules.specs.AcWrite.{tokens, lacking, acBytes, writeAc}
@@ -87,7 +87,7 @@ record ClosedOn (p : Plane) (ys : List ℤ) : Type 0 where
 
 closed-given : (p : Plane) (ys : List ℤ) → closed p ≡ given ys → ClosedOn p ys
 unfolding closed
-closed-given (broken r) ys e = absurd (refused-given e)
+closed-given (refusing r) ys e = absurd (refused-given e)
 closed-given (read values s) ys e =
     let h = need-given (onlyPadding s) 18 (s .seen) (given values) ys e in
     let q : given values ≡ given ys = h .1 in

@@ -17,8 +17,9 @@ use Rattle.plane_rules.specs.Task.{Task, walk, ended, over}
 use Rattle.plane_rules.specs.AcRead.{taskAt, position, blockEnd, acBlock, acBlocks}
 use Rattle.plane_rules.specs.AcWrite.{acHalf, Kind, keep, still, fresh, kindOf, oneMore, ahead, unlessNew, quiet, planned, plan, writeBlock}
 use Rattle.plane_rules.specs.Levels.{towardZero}
+use Rattle.plane_rules.proofs.Halves.{kind-zero, kind-up, kind-down}
 use Rattle.demands.specs.Written.{together, LongestRun, marks, EndsAtOnce, NewValueLater, SixteenBeforeNew}
-use Rattle.demands.proofs.Planes.{got-both, broken-read, fronted, came, half-block}
+use Rattle.demands.proofs.Planes.{got-both, refusing-read, fronted, came, half-block}
 
 -- ---- what an end run leaves: no new value
 
@@ -30,12 +31,12 @@ zero-minus e = let z : _≡_ {A = ℕ} 0 1 = ap natAbs e in omega arith
 
 -- a value that a position in an end run comes to is no new one
 no-new : (n : ℕ) (x : ℤ) (s : Source) (y : ℤ × Option Task) (u : Source) → position (ended n) (acHalf x) s ≡ got y u → y .0 ≡ x → (kinds : List Kind) → ahead kinds ≡ none → ahead (kindOf x ∷ kinds) ≡ none
-unfolding position acHalf kindOf ahead oneMore
-no-new n (pos zero) s y u e q kinds h = rw h
+unfolding position acHalf ahead oneMore
+no-new n (pos zero) s y u e q kinds h = rw (kind-zero, h)
 no-new n (pos (suc zero)) s y u e q kinds h = let z : pos 0 ≡ pos 1 = ap (λ (p : ℤ × Option Task). p .0) (got-both e .0) ∙ q in absurd (zero-one z)
-no-new n (pos (suc (suc m))) s y u e q kinds h = h
+no-new n (pos (suc (suc m))) s y u e q kinds h = rw (kind-up m) h
 no-new n (negsuc zero) s y u e q kinds h = let z : pos 0 ≡ negsuc 0 = ap (λ (p : ℤ × Option Task). p .0) (got-both e .0) ∙ q in absurd (zero-minus z)
-no-new n (negsuc (suc m)) s y u e q kinds h = h
+no-new n (negsuc (suc m)) s y u e q kinds h = rw (kind-down m) h
 
 stays : (n : ℕ) (c : ℤ) (s : Source) (y : ℤ × Option Task) (u : Source) → position (ended n) c s ≡ got y u → y .1 ≡ some (ended n)
 unfolding position
@@ -85,7 +86,7 @@ module _ (T : Table) where
           → (x : Out (List ℤ × Option Task)) → acBlock T (suc (length (map (map acHalf) bs))) (some (ended n)) (map acHalf b) s ≡ x
           → inBlock k (λ r t. onto (r .0) (acBlocks T (suc k) (r .1) (map (map acHalf) bs) t)) x ≡ read (b ++ together bs) t
           → suc n ≤ unlessNew (ahead (map kindOf b)) (quiet (map (map kindOf) bs))
-      go ih (stopped x) q e = absurd (broken-read e)
+      go ih (stopped x) q e = absurd (refusing-read e)
       go ih (got r u) q e =
           let f = fronted (r .0) (b ++ together bs) (acBlocks T (suc k) (r .1) (map (map acHalf) bs) u) t e in
           let half : map (towardZero 1) (r .0) ≡ map acHalf b = half-block T _ (map acHalf b) (some (ended n)) s r u q in

@@ -22,32 +22,34 @@ use Rattle.bit_rules.specs.Write.{placeOf, word}
 use Rattle.bit_rules.proofs.CodeTrip.{bin-odd, halve, code-trip}
 use Rattle.plane_rules.specs.Plane.{read, onto}
 use Rattle.plane_rules.specs.Task.{Task, walk, ended, unit, atZero}
-use Rattle.plane_rules.specs.AcRead.{takeNumber, endRun, meaning, taskAt, position, blockEnd, acBlock, acBlocks}
+use Rattle.bit_rules.specs.Number.{takeNumber}
+use Rattle.plane_rules.specs.AcRead.{endRun, meaning, taskAt, position, blockEnd, acBlock, acBlocks}
+use Rattle.plane_rules.proofs.Halves.{kind-zero, kind-one, kind-minus-one, kind-up, kind-down}
 use Rattle.plane_rules.specs.AcWrite.{acHalf, Kind, keep, still, fresh, kindOf, oneMore, ahead, unlessNew, quiet, planned, plan, Token, code, raw, order, class, emit, mark, after, writeBlock, writeBlocks, orElse, lacking, spelled}
 
 -- ---- tokens
 
 -- from s on these tokens are read, and u is left
-abbrev pub Says : Table → Source → List Token → Source → Type 0
-Says T s [] u = s ≡ u
-Says T s (code v ∷ rest) u = (t : Source) × (takeCode T s ≡ got v t) × Says T t rest u
-Says T s (raw b ∷ rest) u = (t : Source) × (takeBit s ≡ got b t) × Says T t rest u
+abbrev pub GivesTokens : Table → Source → List Token → Source → Type 0
+GivesTokens T s [] u = s ≡ u
+GivesTokens T s (code v ∷ rest) u = (t : Source) × (takeCode T s ≡ got v t) × GivesTokens T t rest u
+GivesTokens T s (raw b ∷ rest) u = (t : Source) × (takeBit s ≡ got b t) × GivesTokens T t rest u
 
-split : (T : Table) (s : Source) (a b : List Token) (u : Source) → Says T s (a ++ b) u → (t : Source) × Says T s a t × Says T t b u
-split T s [] b u h = (s, refl, h)
-split T s (code v ∷ a) b u h = let r = split T (h .0) a b u (h .2) in (r .0, (h .0, h .1, r .1), r .2)
-split T s (raw v ∷ a) b u h = let r = split T (h .0) a b u (h .2) in (r .0, (h .0, h .1, r .1), r .2)
+tokens-split : (T : Table) (s : Source) (a b : List Token) (u : Source) → GivesTokens T s (a ++ b) u → (t : Source) × GivesTokens T s a t × GivesTokens T t b u
+tokens-split T s [] b u h = (s, refl, h)
+tokens-split T s (code v ∷ a) b u h = let r = tokens-split T (h .0) a b u (h .2) in (r .0, (h .0, h .1, r .1), r .2)
+tokens-split T s (raw v ∷ a) b u h = let r = tokens-split T (h .0) a b u (h .2) in (r .0, (h .0, h .1, r .1), r .2)
 
--- bits that spell tokens, none of which the table lacks, say them
+-- bits that spell tokens, none of which the table lacks, give them
 module _ (T : Table) (good : goodTable T ≡ true) where
-  pub spelled-says : (ws : List Token) (s u : Source) → lacking T ws ≡ Nothing → Gives s (spelled T ws) u → Says T s ws u
+  pub spelled-gives : (ws : List Token) (s u : Source) → lacking T ws ≡ Nothing → Gives s (spelled T ws) u → GivesTokens T s ws u
   unfolding spelled lacking
-  spelled-says [] s u m g = g
-  spelled-says (raw b ∷ ws) s u m g = (g .0, g .1, spelled-says ws (g .0) u m (g .2))
-  spelled-says (code v ∷ ws) s u m g = go (placeOf v (T .values)) refl m (λ t n h. spelled-says ws t u n h)
+  spelled-gives [] s u m g = g
+  spelled-gives (raw b ∷ ws) s u m g = (g .0, g .1, spelled-gives ws (g .0) u m (g .2))
+  spelled-gives (code v ∷ ws) s u m g = go (placeOf v (T .values)) refl m (λ t n h. spelled-gives ws t u n h)
     where
-      go : (f : Found) → placeOf v (T .values) ≡ f → orElse v f (lacking T ws) ≡ Nothing → ((t : Source) → lacking T ws ≡ Nothing → Gives t (spelled T ws) u → Says T t ws u)
-          → Says T s (code v ∷ ws) u
+      go : (f : Found) → placeOf v (T .values) ≡ f → orElse v f (lacking T ws) ≡ Nothing → ((t : Source) → lacking T ws ≡ Nothing → Gives t (spelled T ws) u → GivesTokens T t ws u)
+          → GivesTokens T s (code v ∷ ws) u
       go Nothing e m ih = let z : _≡_ {A = ℕ} 0 1 = cc in absurd (omega arith)
       go (At k) e m ih =
           let r = gives-split s (word T v) (spelled T ws) u g in
@@ -76,13 +78,13 @@ kept-neg t n s u e =
     let q : 2 * (n / 2) + 1 + bin (odd n) ≡ suc n = omega (arith, bin-odd n) in
     rw (half-two n, e, q)
 
-position-back : (T : Table) (t : Task) (x : ℤ) (s u : Source) → Agrees t (kindOf x) → Says T s (mark (kindOf x)) u → position t (acHalf x) s ≡ got (x, after t (kindOf x)) u
-unfolding position kindOf acHalf
-position-back T t (pos zero) s u a h = rw (a, h)
-position-back T t (pos (suc zero)) s u a h = rw (a, h)
-position-back T t (pos (suc (suc n))) s u a h = kept-pos t n s u (rw (h .2) at (h .1))
-position-back T t (negsuc zero) s u a h = rw (a, h)
-position-back T t (negsuc (suc n)) s u a h = kept-neg t n s u (rw (h .2) at (h .1))
+position-back : (T : Table) (t : Task) (x : ℤ) (s u : Source) → Agrees t (kindOf x) → GivesTokens T s (mark (kindOf x)) u → position t (acHalf x) s ≡ got (x, after t (kindOf x)) u
+unfolding position acHalf
+position-back T t (pos zero) s u a h = rw (kind-zero, rw kind-zero at a, rw kind-zero at h)
+position-back T t (pos (suc zero)) s u a h = rw (kind-one, rw kind-one at a, rw kind-one at h)
+position-back T t (pos (suc (suc n))) s u a h = let m = rw (kind-up n) at h in rw (kind-up n) (kept-pos t n s u (rw (m .2) at (m .1)))
+position-back T t (negsuc zero) s u a h = rw (kind-minus-one, rw kind-minus-one at a, rw kind-minus-one at h)
+position-back T t (negsuc (suc n)) s u a h = let m = rw (kind-down n) at h in rw (kind-down n) (kept-neg t n s u (rw (m .2) at (m .1)))
 
 -- ---- the rest of a block
 
@@ -92,12 +94,12 @@ Fits End none (x ∷ kinds) = Unit {0}
 Fits End (some t) (x ∷ kinds) = Agrees t x × Fits End (after t x) kinds
 
 -- what the end of a block asks of the later ones
-abbrev Ends : List (List Kind) → Option Task → Type 0
-Ends later none = Unit {0}
-Ends later (some (ended n)) = n ≤ quiet later
-Ends later (some (walk n sign)) = ⊥
+abbrev MayEnd : List (List Kind) → Option Task → Type 0
+MayEnd later none = Unit {0}
+MayEnd later (some (ended n)) = n ≤ quiet later
+MayEnd later (some (walk n sign)) = ⊥
 
-fits-none : (kinds : List Kind) (later : List (List Kind)) → Fits (Ends later) none kinds
+fits-none : (kinds : List Kind) (later : List (List Kind)) → Fits (MayEnd later) none kinds
 fits-none [] later = tt
 fits-none (x ∷ kinds) later = tt
 
@@ -118,7 +120,7 @@ more-some none p e = absurd (never e)
 more-some (some q) p e = (q, refl, sym (same e))
 
 -- an end run, where no new value is ahead
-calm : (kinds : List Kind) (later : List (List Kind)) (n : ℕ) → ahead kinds ≡ none → n ≤ quiet later → Fits (Ends later) (some (ended n)) kinds
+calm : (kinds : List Kind) (later : List (List Kind)) (n : ℕ) → ahead kinds ≡ none → n ≤ quiet later → Fits (MayEnd later) (some (ended n)) kinds
 unfolding ahead
 calm [] later n e h = h
 calm (keep b ∷ kinds) later n e h = (tt, calm kinds later n e h)
@@ -129,17 +131,17 @@ calm (fresh b ∷ kinds) later n e h = absurd (never (sym e))
 abbrev To : (Option Task → Type 0) → List Kind → ℕ × Bool → Type 0
 To End kinds p = Fits End (some (walk (p .0) (some (p .1)))) kinds
 
-aim : (kinds : List Kind) (later : List (List Kind)) (p : ℕ × Bool) → ahead kinds ≡ some p → To (Ends later) kinds p
+aim : (kinds : List Kind) (later : List (List Kind)) (p : ℕ × Bool) → ahead kinds ≡ some p → To (MayEnd later) kinds p
 unfolding ahead
 aim [] later p e = absurd (never e)
 aim (keep b ∷ kinds) later p e = (tt, aim kinds later p e)
 aim (still ∷ kinds) later p e =
     let r = more-some (ahead kinds) p e in
-    subst (λ q. To (Ends later) (still ∷ kinds) q) (sym (r .2)) (refl, aim kinds later (r .0) (r .1))
-aim (fresh b ∷ kinds) later p e = subst (λ q. To (Ends later) (fresh b ∷ kinds) q) (same e) (refl, fits-none kinds later)
+    subst (λ q. To (MayEnd later) (still ∷ kinds) q) (sym (r .2)) (refl, aim kinds later (r .0) (r .1))
+aim (fresh b ∷ kinds) later p e = subst (λ q. To (MayEnd later) (fresh b ∷ kinds) q) (same e) (refl, fits-none kinds later)
 
 -- a walk over zeros that are all before the next new value
-long : (kinds : List Kind) (later : List (List Kind)) (p : ℕ × Bool) (n : ℕ) → ahead kinds ≡ some p → n < p .0 → Fits (Ends later) (some (walk n none)) kinds
+long : (kinds : List Kind) (later : List (List Kind)) (p : ℕ × Bool) (n : ℕ) → ahead kinds ≡ some p → n < p .0 → Fits (MayEnd later) (some (walk n none)) kinds
 unfolding ahead
 long [] later p n e h = absurd (never e)
 long (keep b ∷ kinds) later p n e h = (tt, long kinds later p n e h)
@@ -149,21 +151,21 @@ long (still ∷ kinds) later p (suc n) e h =
     (refl, long kinds later (r .0) n (r .1) (omega (arith, ap (λ (q : ℕ × Bool). q .0) (r .2))))
 long (fresh b ∷ kinds) later p n e h = absurd (omega (arith, ap (λ (q : ℕ × Bool). q .0) (same e)))
 
-plan-fits : (kinds : List Kind) (later : List (List Kind)) → Fits (Ends later) (some (plan kinds later)) kinds
+plan-fits : (kinds : List Kind) (later : List (List Kind)) → Fits (MayEnd later) (some (plan kinds later)) kinds
 unfolding plan
 plan-fits kinds later = go (ahead kinds) refl
   where
-    near : (p : ℕ × Bool) → ahead kinds ≡ some p → (b : Bool) → ltb (p .0) 16 ≡ b → Fits (Ends later) (some (cond b (walk (p .0) (some (p .1))) (walk 15 none))) kinds
+    near : (p : ℕ × Bool) → ahead kinds ≡ some p → (b : Bool) → ltb (p .0) 16 ≡ b → Fits (MayEnd later) (some (cond b (walk (p .0) (some (p .1))) (walk 15 none))) kinds
     near p e true q = aim kinds later p e
     near p e false q = long kinds later p 15 e (ltb-false (p .0) 16 q)
 
-    go : (o : Option (ℕ × Bool)) → ahead kinds ≡ o → Fits (Ends later) (some (planned o (quiet later))) kinds
+    go : (o : Option (ℕ × Bool)) → ahead kinds ≡ o → Fits (MayEnd later) (some (planned o (quiet later))) kinds
     go none e = calm kinds later (quiet later) e (omega arith)
     go (some p) e = near p e (ltb (p .0) 16) refl
 
 -- ---- a code and what follows it
 
-number-back : (T : Table) (n v N : ℕ) (s u : Source) → v ≡ N / 2 ^ n → Says T s (map raw (digits n N)) u → takeNumber n v s ≡ got N u
+number-back : (T : Table) (n v N : ℕ) (s u : Source) → v ≡ N / 2 ^ n → GivesTokens T s (map raw (digits n N)) u → takeNumber n v s ≡ got N u
 unfolding digits takeNumber
 number-back T zero v N s u e h = let q : v ≡ N = omega arith in rw (h, q)
 number-back T (suc n) v N s u e h =
@@ -197,7 +199,7 @@ Tellable left (walk n none) = n ≡ 15
 Tellable left (walk n (some b)) = n < 16
 Tellable left (ended n) = (n < left) × (left < 2 ^ 15)
 
-run-back : (T : Table) (left n : ℕ) (s u : Source) → Tellable left (ended n) → Says T s (map raw (digits (class (suc n)) (suc n - 2 ^ class (suc n)))) u
+run-back : (T : Table) (left n : ℕ) (s u : Source) → Tellable left (ended n) → GivesTokens T s (map raw (digits (class (suc n)) (suc n - 2 ^ class (suc n)))) u
     → endRun left (class (suc n)) s ≡ got (ended n) u
 unfolding endRun
 run-back T left n s u g h =
@@ -208,7 +210,7 @@ run-back T left n s u g h =
     let v : 2 ^ r + e ≡ suc n = omega arith in
     rw (number-back T r 0 e s u (sym z) h, v, le-leb (suc n) left (g .0)) (ap (λ (k : ℕ). got (ended k) u) (omega arith))
 
-task-back : (T : Table) (left : ℕ) (t : Task) (s u : Source) → Tellable left t → Says T s (emit t) u → taskAt T left none s ≡ got t u
+task-back : (T : Table) (left : ℕ) (t : Task) (s u : Source) → Tellable left t → GivesTokens T s (emit t) u → taskAt T left none s ≡ got t u
 unfolding taskAt meaning emit
 task-back T left (walk n none) s u g h =
     let d : 16 * n / 16 ≡ 15 = omega arith in
@@ -249,31 +251,31 @@ plan-tellable kinds later left h k = go (ahead kinds)
 -- ---- a block
 
 module _ (T : Table) (left : ℕ) (later : List (List Kind)) (fit : quiet later < left) (few : left < 2 ^ 15) where
-  block-back : (values : List ℤ) (o : Option Task) (s u : Source) → Fits (Ends later) o (map kindOf values) → Says T s (writeBlock o (map kindOf values) later .0) u
+  block-back : (values : List ℤ) (o : Option Task) (s u : Source) → Fits (MayEnd later) o (map kindOf values) → GivesTokens T s (writeBlock o (map kindOf values) later .0) u
       → acBlock T left o (map acHalf values) s ≡ got (values, writeBlock o (map kindOf values) later .1) u
   unfolding acBlock blockEnd taskAt writeBlock
   block-back [] none s u f h = rw h
   block-back [] (some (walk n sign)) s u f h = absurd f
   block-back [] (some (ended n)) s u f h = rw h
   block-back (x ∷ values) (some t) s u f h =
-      let a = split T s (mark (kindOf x)) (writeBlock (after t (kindOf x)) (map kindOf values) later .0) u h in
+      let a = tokens-split T s (mark (kindOf x)) (writeBlock (after t (kindOf x)) (map kindOf values) later .0) u h in
       rw (position-back T t x s (a .0) (f .0) (a .1), block-back values (after t (kindOf x)) (a .0) u (f .1) (a .2))
   block-back (x ∷ values) none s u f h =
       let t : Task = plan (kindOf x ∷ map kindOf values) later in
       let g = plan-fits (kindOf x ∷ map kindOf values) later in
-      let e = split T s (emit t) (mark (kindOf x) ++ writeBlock (after t (kindOf x)) (map kindOf values) later .0) u h in
-      let a = split T (e .0) (mark (kindOf x)) (writeBlock (after t (kindOf x)) (map kindOf values) later .0) u (e .2) in
+      let e = tokens-split T s (emit t) (mark (kindOf x) ++ writeBlock (after t (kindOf x)) (map kindOf values) later .0) u h in
+      let a = tokens-split T (e .0) (mark (kindOf x)) (writeBlock (after t (kindOf x)) (map kindOf values) later .0) u (e .2) in
       rw (task-back T left t s (e .0) (plan-tellable (kindOf x ∷ map kindOf values) later left fit few) (e .1), position-back T t x (e .0) (a .0) (g .0) (a .1), block-back values (after t (kindOf x)) (a .0) u (g .1) (a .2))
 
 -- ---- blocks
 
 -- what the beginning of a block asks of it and the later ones
-abbrev pub Begins : List (List Kind) → Option Task → Type 0
-Begins later none = Unit {0}
-Begins later (some (ended n)) = n < quiet later
-Begins later (some (walk n sign)) = ⊥
+abbrev pub MayBegin : List (List Kind) → Option Task → Type 0
+MayBegin later none = Unit {0}
+MayBegin later (some (ended n)) = n < quiet later
+MayBegin later (some (walk n sign)) = ⊥
 
-block-begins : (kinds : List Kind) (later : List (List Kind)) (o : Option Task) → Fits (Ends later) o kinds → Begins later (writeBlock o kinds later .1)
+block-begins : (kinds : List Kind) (later : List (List Kind)) (o : Option Task) → Fits (MayEnd later) o kinds → MayBegin later (writeBlock o kinds later .1)
 unfolding writeBlock
 block-begins [] later none f = tt
 block-begins [] later (some (walk n sign)) f = absurd f
@@ -282,13 +284,13 @@ block-begins [] later (some (ended (suc n))) f = f
 block-begins (x ∷ kinds) later (some t) f = block-begins kinds later (after t x) (f .1)
 block-begins (x ∷ kinds) later none f = block-begins kinds later (after (plan (x ∷ kinds) later) x) (plan-fits (x ∷ kinds) later .1)
 
-enter : (b : List Kind) (bs : List (List Kind)) (o : Option Task) → Begins (b ∷ bs) o → Fits (Ends bs) o b
+enter : (b : List Kind) (bs : List (List Kind)) (o : Option Task) → MayBegin (b ∷ bs) o → Fits (MayEnd bs) o b
 unfolding quiet
 enter b bs none h = fits-none b bs
 enter b bs (some (walk n sign)) h = absurd h
 enter b bs (some (ended n)) h = go (ahead b) refl h
   where
-    go : (o : Option (ℕ × Bool)) → ahead b ≡ o → n < unlessNew o (quiet bs) → Fits (Ends bs) (some (ended n)) b
+    go : (o : Option (ℕ × Bool)) → ahead b ≡ o → n < unlessNew o (quiet bs) → Fits (MayEnd bs) (some (ended n)) b
     go none e k = calm b bs n e (omega arith)
     go (some p) e k = absurd (omega arith)
 
@@ -299,7 +301,7 @@ joined (b ∷ bs) = b ++ joined bs
 abbrev pub kinds : List (List ℤ) → List (List Kind)
 kinds bs = map (map kindOf) bs
 
-pub blocks-back : (T : Table) (block : ℕ) (bs : List (List ℤ)) (o : Option Task) (s u : Source) → Begins (kinds bs) o → length bs < 2 ^ 15 → Says T s (writeBlocks o (kinds bs)) u
+pub blocks-back : (T : Table) (block : ℕ) (bs : List (List ℤ)) (o : Option Task) (s u : Source) → MayBegin (kinds bs) o → length bs < 2 ^ 15 → GivesTokens T s (writeBlocks o (kinds bs)) u
     → acBlocks T block o (map (map acHalf) bs) s ≡ read (joined bs) u
 unfolding acBlocks writeBlocks onto joined
 blocks-back T block [] o s u n l h = rw h
@@ -307,7 +309,7 @@ blocks-back T block (b ∷ bs) o s u n l h =
     let K : List (List Kind) = kinds bs in
     let w = writeBlock o (map kindOf b) K in
     let f = enter (map kindOf b) K o n in
-    let a = split T s (w .0) (writeBlocks (w .1) K) u h in
+    let a = tokens-split T s (w .0) (writeBlocks (w .1) K) u h in
     let q : quiet K < suc (length bs) = omega (arith, quiet-most K, length-map bs (map kindOf)) in
     let ih = blocks-back T (suc block) bs (w .1) (a .0) u (block-begins (map kindOf b) K o f) (omega arith) (a .2) in
     let e : length (map (map acHalf) bs) ≡ length bs = length-map bs (map acHalf) in

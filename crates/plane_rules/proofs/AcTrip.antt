@@ -1,13 +1,13 @@
--- What the AC writer writes, the AC reader reads: one plane, and then k planes on a base. Assumes nothing.
+-- What the rules write of an AC plane, the AC reader reads: one plane, and then k planes on a base. Assumes nothing.
 use mathlib.Core.Path.{_≡_, refl, sym, ap, _∙_}
 use mathlib.Core.Bool.{true}
 use mathlib.Core.List.{List, [], _∷_, map}
 use mathlib.Core.Option.{none}
-use Prim.Native.Nat.{ℕ, zero, suc, _+_, _-_, _*_, _/_, _^_, _≤_, _<_}
+use Prim.Native.Nat.{ℕ, zero, suc, _-_, _*_, _/_, _^_, _≤_, _<_}
 use native.Mathlib.Omega.{arith}
 use lib.Dec.{eqb}
 use lib.IntN.{ℤ, pos, negsuc, negℤ}
-use lib.ListN.{length, take, drop, replicate, length-map, length-drop, take-append-drop}
+use lib.ListN.{length, take, drop, length-map, length-drop, take-append-drop}
 use borrow.Author.Tests.{le-leb, eqb-true, eq-eqb}
 use Rattle.laws.specs.Index.{every}
 use Rattle.laws.specs.declared.Found.the-variants.{Nothing}
@@ -16,18 +16,18 @@ use Rattle.answers.specs.Verdict.{given}
 use Rattle.answers.proofs.Given.{need-given, unless-given, fitting-given-same, fits}
 use Rattle.levels.specs.Level.{inLevel, isDc, firstOutside}
 use Rattle.levels.specs.declared.Part.the-variants.{Ac}
-use Rattle.bit_rules.specs.Source.{Source, source, start}
-use Rattle.bit_rules.proofs.Trip.{bytes-say}
+use Rattle.bit_rules.specs.Source.{Source, start}
+use Rattle.bit_rules.proofs.Trip.{bytes-say, padding-left}
 use Rattle.bit_rules.specs.Table.{Table, goodTable}
 use Rattle.bit_rules.proofs.CodeTrip.{halve}
-use Rattle.plane_rules.specs.Plane.{writable, read, closed}
+use Rattle.plane_rules.specs.Plane.{readable, writable, read, closed}
 use Rattle.plane_rules.specs.AcRead.{cut, acBlocks, readAc}
 use Rattle.plane_rules.specs.AcWrite.{acHalf, Token, tokens, lacking, spelled, acBytes, writeAc}
 use Rattle.plane_rules.specs.Levels.{towardZero, atLevel}
-use Rattle.plane_rules.proofs.Ranges.{ranged}
+use Rattle.plane_rules.proofs.Ranges.{ranged, in-range, may-write, may-read}
 use Rattle.plane_rules.proofs.Closing.{closed-well}
-use Rattle.plane_rules.proofs.Levels.{in-range, half-in, Halving, halves-inside, level-full, level-half, level-inside}
-use Rattle.plane_rules.proofs.AcTokens.{spelled-says, joined, blocks-back}
+use Rattle.plane_rules.proofs.Levels.{half-in, Halving, halves-inside, level-full, level-half, level-inside}
+use Rattle.plane_rules.proofs.AcTokens.{spelled-gives, joined, blocks-back}
 
 -- ---- one plane
 
@@ -60,32 +60,6 @@ unfolding cut joined
 joined-cut zero values e = sym (empty-list values (omega arith))
 joined-cut (suc n) values e = rw (joined-cut n (drop 63 values) (omega (arith, length-drop 63 values))) (take-append-drop 63 values)
 
--- what the writer's acceptance says
-record Wrote (plane blocks : ℕ) (T : Table) (values : List ℤ) (bytes : List ℕ) : Type 0 where
-  ranges : every (writable plane blocks) ≡ true
-  count : length values ≡ 63 * blocks
-  table : goodTable T ≡ true
-  inside : firstOutside Ac plane values ≡ Nothing
-  codes : lacking T (tokens blocks values) ≡ Nothing
-  same : acBytes blocks T values ≡ bytes
-
-wrote : (plane blocks : ℕ) (T : Table) (values : List ℤ) (room : ℕ) (bytes : List ℕ) → writeAc plane blocks T values room ≡ given bytes → Wrote plane blocks T values bytes
-unfolding writeAc
-wrote plane blocks T values room bytes w =
-    let w20 = need-given (every (writable plane blocks)) 20 0 _ bytes w in
-    let w21 = need-given (eqb (length values) (63 * blocks)) 21 0 _ bytes (w20 .1) in
-    let w10 = need-given (goodTable T) 10 0 _ bytes (w21 .1) in
-    let w11 = unless-given 11 (firstOutside Ac plane values) _ bytes (w10 .1) in
-    let w19 = unless-given 19 (lacking T (tokens blocks values)) _ bytes (w11 .1) in
-    record {
-      ranges = w20 .0;
-      count = eqb-true (length values) (63 * blocks) (w21 .0);
-      table = w10 .0;
-      inside = w11 .0;
-      codes = w19 .0;
-      same = fitting-given-same room (acBytes blocks T values) bytes (w19 .1);
-    }
-
 pub ac-halving : Halving Ac acHalf towardZero
 unfolding acHalf towardZero inLevel isDc
 ac-halving = record { whole = whole; again = again; lower = lower }
@@ -106,23 +80,35 @@ ac-halving = record { whole = whole; again = again; lower = lower }
     lower level i (pos n) e = half-in level n e
     lower level i (negsuc n) e = rw (abs-neg (pos (suc n / 2))) (half-in level (suc n) e)
 
--- whatever the writer accepts, the reader reads back from the halves
-pub ac-trip : (plane blocks : ℕ) (T : Table) (values : List ℤ) (room space : ℕ) (bytes : List ℕ) → writeAc plane blocks T values room ≡ given bytes → 63 * blocks ≤ space
-    → readAc plane blocks T (map acHalf values) bytes space ≡ given values
+-- the bytes that the rules give for a plane, with a table that lacks no code of it, read over the halves, give the values
+pub ac-trip : (plane blocks : ℕ) (T : Table) (values : List ℤ) (space : ℕ) → every (readable plane blocks) ≡ true → length values ≡ 63 * blocks → goodTable T ≡ true → firstOutside Ac plane values ≡ Nothing
+    → lacking T (tokens blocks values) ≡ Nothing → 63 * blocks ≤ space → readAc plane blocks T (map acHalf values) (acBytes blocks T values) space ≡ given values
 unfolding readAc tokens
-ac-trip plane blocks T values room space bytes w h =
-    let W = wrote plane blocks T values room bytes w in
-    let p = ranged plane blocks (W .ranges) in
+ac-trip plane blocks T values space ranges count good inside codes h =
+    let p = ranged plane blocks ranges in
     let ws : List Token = tokens blocks values in
-    let says = bytes-say (spelled T ws) in
     let s : Source = start (acBytes blocks T values) in
-    let u : Source = source (replicate (says .0) true) [] (0 + length (acBytes blocks T values)) in
+    let says = bytes-say (spelled T ws) .from s (refl, refl) in
+    let u : Source = says .1 in
     let b : acBlocks T 0 none (map (map acHalf) (cut blocks values)) s ≡ read (joined (cut blocks values)) u =
-    blocks-back T 0 (cut blocks values) none s u tt (omega (arith, length-cut blocks values, p .few)) (spelled-says T (W .table) ws s u (W .codes) (says .2)) in
+    blocks-back T 0 (cut blocks values) none s u tt (omega (arith, length-cut blocks values, p .few)) (spelled-gives T good ws s u codes (says .3)) in
     let c : closed (acBlocks T 0 none (cut blocks (map acHalf values)) s) ≡ given values =
-    rw (cut-map acHalf blocks values) (closed-well values (says .0) (0 + length (acBytes blocks T values)) _ (b ∙ ap (λ (l : List ℤ). read l u) (joined-cut blocks values (W .count)))) in
-    let l : eqb (length (map acHalf values)) (63 * blocks) ≡ true = eq-eqb (length (map acHalf values)) (63 * blocks) (length-map values acHalf ∙ W .count) in
-    rw (W .ranges, l, W .table, halves-inside ac-halving plane values (p .low) (W .inside), le-leb (63 * blocks) space h) (rw (W .same) at c)
+    rw (cut-map acHalf blocks values) (closed-well values u _ (padding-left u (says .0) (says .4)) (b ∙ ap (λ (l : List ℤ). read l u) (joined-cut blocks values count))) in
+    let l : eqb (length (map acHalf values)) (63 * blocks) ≡ true = eq-eqb (length (map acHalf values)) (63 * blocks) (length-map values acHalf ∙ count) in
+    rw (ranges, l, good, halves-inside ac-halving plane values (p .low) inside, le-leb (63 * blocks) space h) c
+
+-- so whatever the writer accepts, the reader reads back from the halves
+pub ac-accepted : (plane blocks : ℕ) (T : Table) (values : List ℤ) (room space : ℕ) (bytes : List ℕ) → writeAc plane blocks T values room ≡ given bytes → 63 * blocks ≤ space
+    → readAc plane blocks T (map acHalf values) bytes space ≡ given values
+unfolding writeAc
+ac-accepted plane blocks T values room space bytes w h =
+    let w20 = need-given (every (writable plane blocks)) 20 0 _ bytes w in
+    let w21 = need-given (eqb (length values) (63 * blocks)) 21 0 _ bytes (w20 .1) in
+    let w10 = need-given (goodTable T) 10 0 _ bytes (w21 .1) in
+    let w11 = unless-given 11 (firstOutside Ac plane values) _ bytes (w10 .1) in
+    let w19 = unless-given 19 (lacking T (tokens blocks values)) _ bytes (w11 .1) in
+    let same : acBytes blocks T values ≡ bytes = fitting-given-same room (acBytes blocks T values) bytes (w19 .1) in
+    rw same at (ac-trip plane blocks T values space (may-read plane blocks (w20 .0)) (eqb-true (length values) (63 * blocks) (w21 .0)) (w10 .0) (w11 .0) (w19 .0) h)
 
 -- ---- the AC half of demand 3: k planes on the full values divided by 2^k
 
@@ -135,15 +121,15 @@ module _ (k blocks : ℕ) (few : k ≤ 4) (many : blocks ≤ 1024) (full : List 
     ac-written room fit =
         let values : List ℤ = atLevel towardZero k full (suc j) in
         let c : eqb (length values) (63 * blocks) ≡ true = eq-eqb (length values) (63 * blocks) (length-map full (towardZero (k - suc j)) ∙ count) in
-        rw (in-range (suc j) blocks (omega arith) (omega arith) many, c, table, level-inside ac-halving k full range (suc j) l, codes) (fits room (acBytes blocks T values) fit)
+        rw (may-write (suc j) blocks (omega arith) (omega arith) many, c, table, level-inside ac-halving k full range (suc j) l, codes) (fits room (acBytes blocks T values) fit)
 
     -- and by the reader, over the values of the level below
     pub ac-read : (space : ℕ) → 63 * blocks ≤ space
         → readAc (suc j) blocks T (atLevel towardZero k full j) (acBytes blocks T (atLevel towardZero k full (suc j))) space ≡ given (atLevel towardZero k full (suc j))
     ac-read space h =
         let values : List ℤ = atLevel towardZero k full (suc j) in
-        let n : ℕ = length (acBytes blocks T values) in
-        rw (level-half ac-halving k full j l) at (ac-trip (suc j) blocks T values n space (acBytes blocks T values) (ac-written n (omega arith)) h)
+        rw (level-half ac-halving k full j l)
+        at (ac-trip (suc j) blocks T values space (in-range (suc j) blocks (omega arith) (omega arith) many) (length-map full (towardZero (k - suc j)) ∙ count) table (level-inside ac-halving k full range (suc j) l) codes h)
 
   -- after all k it is the full value
   pub ac-full : atLevel towardZero k full k ≡ full

@@ -1,5 +1,5 @@
--- What the DC writer writes, the DC reader reads: one plane, and then k planes on a base. Assumes nothing.
-use mathlib.Core.Path.{_≡_, sym, ap, _∙_}
+-- What the rules write of a DC plane, the DC reader reads: one plane, and then k planes on a base. Assumes nothing.
+use mathlib.Core.Path.{_≡_, refl, sym, ap, _∙_}
 use mathlib.Core.Bool.{Bool, true, false, not}
 use mathlib.Core.List.{List, [], _∷_, map}
 use mathlib.Core.Option.{some}
@@ -7,7 +7,7 @@ use Prim.Native.Nat.{ℕ, suc, _+_, _-_, _*_, _/_, _%_, _≤_, _<_}
 use native.Mathlib.Omega.{arith}
 use lib.Dec.{eqb, ltb}
 use lib.IntN.{ℤ, pos, negsuc}
-use lib.ListN.{length, replicate, length-map}
+use lib.ListN.{length, length-map}
 use borrow.Author.Tests.{lt-ltb, le-leb, eqb-true, eq-eqb}
 use Rattle.laws.specs.Index.{every}
 use Rattle.laws.specs.declared.Found.the-variants.{Nothing}
@@ -16,16 +16,17 @@ use Rattle.answers.proofs.Given.{need-given, unless-given, fitting-given-same, 
 use Rattle.levels.specs.Level.{inLevel, isDc, firstOutside}
 use Rattle.levels.specs.declared.Part.the-variants.{Dc}
 use Rattle.bit_rules.specs.Digits.{bin, odd}
-use Rattle.bit_rules.specs.Source.{Source, source, start}
+use Rattle.bit_rules.specs.Source.{Source, start}
 use Rattle.bit_rules.specs.Gives.{Gives}
-use Rattle.bit_rules.proofs.Trip.{bytes-say}
+use Rattle.bit_rules.proofs.Trip.{bytes-say, padding-left}
 use Rattle.bit_rules.proofs.CodeTrip.{bin-odd, halve}
-use Rattle.plane_rules.specs.Plane.{writable, read, onto, closed}
+use Rattle.plane_rules.specs.Plane.{readable, writable, read, onto, closed}
 use Rattle.plane_rules.specs.Dc.{newDc, dcBlocks, readDc, dcHalf, dcBit, dcBytes, writeDc}
 use Rattle.plane_rules.specs.Levels.{downward, atLevel, accepted, climb}
-use Rattle.plane_rules.proofs.Ranges.{ranged}
+use Rattle.plane_rules.proofs.Ranges.{ranged, in-range, may-write, may-read}
+use Rattle.plane_rules.proofs.Halves.{bit-up, bit-down}
 use Rattle.plane_rules.proofs.Closing.{closed-well}
-use Rattle.plane_rules.proofs.Levels.{in-range, half-in, Halving, halves-inside, level-full, level-half, level-inside, climbed}
+use Rattle.plane_rules.proofs.Levels.{half-in, Halving, halves-inside, level-full, level-half, level-inside, climbed}
 
 -- ---- one value
 
@@ -51,9 +52,9 @@ twice q b =
 
 -- twice the half and the bit are the value
 new-back : (x : ℤ) → newDc (dcHalf x) (dcBit x) ≡ x
-unfolding newDc dcHalf dcBit
-new-back (pos n) = ap pos (omega (arith, bin-odd n))
-new-back (negsuc n) = twice (n / 2) (not (odd n)) ∙ ap negsuc (omega (arith, bin-not n))
+unfolding newDc dcHalf
+new-back (pos n) = rw (bit-up n) (ap pos (omega (arith, bin-odd n)))
+new-back (negsuc n) = rw (bit-down n) (twice (n / 2) (not (odd n)) ∙ ap negsuc (omega (arith, bin-not n)))
 
 pub dc-halving : Halving Dc dcHalf downward
 unfolding dcHalf downward inLevel isDc
@@ -78,23 +79,29 @@ unfolding dcBlocks onto
 blocks-back [] block s u g = rw g
 blocks-back (x ∷ values) block s u g = rw (g .1, blocks-back values (suc block) (g .0) u (g .2), new-back x)
 
--- whatever the writer accepts, the reader reads back from the halves
-pub dc-trip : (plane blocks : ℕ) (values : List ℤ) (room space : ℕ) (bytes : List ℕ) → writeDc plane blocks values room ≡ given bytes → blocks ≤ space
+-- the bytes that the rules give for a plane, read over the halves, give the values
+pub dc-trip : (plane blocks : ℕ) (values : List ℤ) (space : ℕ) → every (readable plane blocks) ≡ true → length values ≡ blocks → firstOutside Dc plane values ≡ Nothing → blocks ≤ space
+    → readDc plane blocks (map dcHalf values) (dcBytes values) space ≡ given values
+unfolding readDc
+dc-trip plane blocks values space ranges count inside h =
+    let s : Source = start (dcBytes values) in
+    let says = bytes-say (map dcBit values) .from s (refl, refl) in
+    let u : Source = says .1 in
+    let b : closed (dcBlocks 0 (map dcHalf values) s) ≡ given values = closed-well values u _ (padding-left u (says .0) (says .4)) (blocks-back values 0 s u (says .3)) in
+    let l : eqb (length (map dcHalf values)) blocks ≡ true = eq-eqb (length (map dcHalf values)) blocks (length-map values dcHalf ∙ count) in
+    let below = halves-inside dc-halving plane values (ranged plane blocks ranges .low) inside in
+    rw (ranges, l, below, le-leb blocks space h) b
+
+-- so whatever the writer accepts, the reader reads back from the halves
+pub dc-accepted : (plane blocks : ℕ) (values : List ℤ) (room space : ℕ) (bytes : List ℕ) → writeDc plane blocks values room ≡ given bytes → blocks ≤ space
     → readDc plane blocks (map dcHalf values) bytes space ≡ given values
-unfolding writeDc readDc
-dc-trip plane blocks values room space bytes w h =
+unfolding writeDc
+dc-accepted plane blocks values room space bytes w h =
     let w20 = need-given (every (writable plane blocks)) 20 0 _ bytes w in
     let w21 = need-given (eqb (length values) blocks) 21 0 _ bytes (w20 .1) in
     let w11 = unless-given 11 (firstOutside Dc plane values) _ bytes (w21 .1) in
-    let says = bytes-say (map dcBit values) in
-    let u : Source = source (replicate (says .0) true) [] (0 + length (dcBytes values)) in
-    let b : closed (dcBlocks 0 (map dcHalf values) (start (dcBytes values))) ≡ given values =
-    closed-well values (says .0) (0 + length (dcBytes values)) _ (blocks-back values 0 (start (dcBytes values)) u (says .2)) in
-    let e : dcBytes values ≡ bytes = fitting-given-same room (dcBytes values) bytes (w11 .1) in
-    let l : eqb (length (map dcHalf values)) blocks ≡ true =
-    eq-eqb (length (map dcHalf values)) blocks (length-map values dcHalf ∙ eqb-true (length values) blocks (w21 .0)) in
-    let below = halves-inside dc-halving plane values (ranged plane blocks (w20 .0) .low) (w11 .0) in
-    rw (w20 .0, l, below, le-leb blocks space h) (rw e at b)
+    let same : dcBytes values ≡ bytes = fitting-given-same room (dcBytes values) bytes (w11 .1) in
+    rw same at (dc-trip plane blocks values space (may-read plane blocks (w20 .0)) (eqb-true (length values) blocks (w21 .0)) (w11 .0) h)
 
 -- ---- the DC half of demand 3: k planes on the full values divided by 2^k
 
@@ -108,14 +115,15 @@ module _ (k blocks : ℕ) (few : k ≤ 4) (many : blocks ≤ 1024) (full : List 
   dc-written j room l fit =
       let values : List ℤ = atLevel downward k full (suc j) in
       let c : eqb (length values) blocks ≡ true = eq-eqb (length values) blocks (length-map full (downward (k - suc j)) ∙ count) in
-      rw (in-range (suc j) blocks (omega arith) (omega arith) many, c, level-inside dc-halving k full range (suc j) l) (fits room (dcPlane (suc j)) fit)
+      rw (may-write (suc j) blocks (omega arith) (omega arith) many, c, level-inside dc-halving k full range (suc j) l) (fits room (dcPlane (suc j)) fit)
 
   -- and by the reader, over the values of the level below
   pub dc-read : (j space : ℕ) → j < k → blocks ≤ space
       → readDc (suc j) blocks (atLevel downward k full j) (dcPlane (suc j)) space ≡ given (atLevel downward k full (suc j))
   dc-read j space l h =
+      let values : List ℤ = atLevel downward k full (suc j) in
       rw (level-half dc-halving k full j l)
-      at (dc-trip (suc j) blocks (atLevel downward k full (suc j)) (length (dcPlane (suc j))) space (dcPlane (suc j)) (dc-written j (length (dcPlane (suc j))) l (omega arith)) h)
+      at (dc-trip (suc j) blocks values space (in-range (suc j) blocks (omega arith) (omega arith) many) (length-map full (downward (k - suc j)) ∙ count) (level-inside dc-halving k full range (suc j) l) h)
 
   -- after the first j planes each value is the full one divided by 2^(k-j), downward
   pub dc-climbed : (space : ℕ) → blocks ≤ space → (j : ℕ) → j ≤ k

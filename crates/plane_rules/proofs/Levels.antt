@@ -8,18 +8,12 @@ use native.Mathlib.Nat.{pow-suc}
 use native.Mathlib.Omega.{arith}
 use lib.Dec.{ltb}
 use lib.IntN.{ℤ}
-use borrow.Author.Tests.{le-leb, ltb-true, lt-ltb}
-use Rattle.laws.specs.Index.{every}
+use borrow.Author.Tests.{ltb-true, lt-ltb}
 use Rattle.laws.specs.declared.Found.the-variants.{Nothing}
 use Rattle.levels.specs.Level.{inLevel, isDc, firstOutside}
 use Rattle.levels.specs.declared.Part.{Part}
 use Rattle.levels.proofs.Mapped.{mapped-inside}
-use Rattle.plane_rules.specs.Plane.{readable}
 use Rattle.plane_rules.specs.Levels.{atLevel, climb}
-
-pub in-range : (plane blocks : ℕ) → 1 ≤ plane → plane ≤ 4 → blocks ≤ 1024 → every (readable plane blocks) ≡ true
-unfolding every
-in-range plane blocks a b c = rw (le-leb 1 plane a, le-leb plane 4 b, le-leb blocks 1024 c)
 
 -- half of a magnitude of the level above
 pub half-in : (level n : ℕ) → ltb n (2 ^ (11 + suc level)) ≡ true → ltb (n / 2) (2 ^ (11 + level)) ≡ true

@@ -5,5 +5,7 @@ pub mod AcTokens
 pub mod Levels
 pub mod Closing
 pub mod Ranges
+pub mod Halves
+pub mod DcBlocks
 pub mod DcTrip
 pub mod Cases

@@ -14,7 +14,8 @@ use Rattle.bit_rules.specs.Table.{Table, table, codeCount, kraft, holds, distin
 use Rattle.bit_rules.specs.Read.{codeFrom, takeCode}
 use Rattle.plane_rules.specs.Plane.{onto, closed}
 use Rattle.plane_rules.specs.Dc.{newDc, dcBlocks, readDc}
-use Rattle.plane_rules.specs.AcRead.{takeNumber, endRun, meaning, taskAt, position, blockEnd, acBlock, cut, acBlocks, readAc}
+use Rattle.bit_rules.specs.Number.{takeNumber}
+use Rattle.plane_rules.specs.AcRead.{endRun, meaning, taskAt, position, blockEnd, acBlock, cut, acBlocks, readAc}
 use Rattle.plane_rules.proofs.Cases.{T}
 
 -- what a call comes to, and what the rules say of it

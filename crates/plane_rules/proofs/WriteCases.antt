@@ -11,9 +11,9 @@ use Rattle.bit_rules.specs.Digits.{digits}
 use Rattle.bit_rules.specs.Pack.{stuffed, padded, packed}
 use Rattle.bit_rules.specs.Table.{Table, table, codeCount, kraft, holds, distinct, goodTable}
 use Rattle.bit_rules.specs.Write.{placeOf, codeAt, word}
-use Rattle.plane_rules.specs.Dc.{dcBit, writeDc}
+use Rattle.plane_rules.specs.Dc.{dcHalf, dcBit, writeDc}
 use Rattle.plane_rules.specs.AcRead.{cut}
-use Rattle.plane_rules.specs.AcWrite.{kindOf, oneMore, ahead, quiet, plan, order, class, emit, writeBlock, writeBlocks, tokens, lacking, spelled, writeAc}
+use Rattle.plane_rules.specs.AcWrite.{acHalf, kindOf, oneMore, ahead, quiet, plan, order, class, emit, writeBlock, writeBlocks, tokens, lacking, spelled, writeAc}
 use Rattle.plane_rules.proofs.Cases.{block}
 use Rattle.plane_rules.proofs.ReadCases.{Case, _gives_, _refuses_at_, Holds, zeros, atFive, noTable}
 
@@ -42,7 +42,7 @@ dcWrites =
     ∷ []
 
 pub dc-writes : Holds dcWrites
-unfolding every firstFail orHere inLevel isDc inside firstOutside stuffed padded packed dcBit writeDc
+unfolding every firstFail orHere inLevel isDc inside firstOutside stuffed padded packed dcHalf dcBit writeDc
 dc-writes = refl
 
 -- ---- AC
@@ -87,7 +87,7 @@ acOrder =
     ∷ []
 
 pub ac-order : Holds acOrder
-unfolding every firstFail orHere inLevel isDc inside firstOutside digits stuffed padded packed codeCount kraft holds distinct goodTable placeOf codeAt word cut kindOf oneMore ahead quiet plan order emit writeBlock writeBlocks tokens lacking spelled writeAc
+unfolding every firstFail orHere inLevel isDc inside firstOutside digits stuffed padded packed codeCount kraft holds distinct goodTable placeOf codeAt word cut acHalf kindOf oneMore ahead quiet plan order emit writeBlock writeBlocks tokens lacking spelled writeAc
 ac-order = refl
 
 abbrev acWrites : List (Case ℕ)
@@ -118,7 +118,7 @@ acWrites =
     ∷ []
 
 pub ac-writes : Holds acWrites
-unfolding every firstFail orHere inLevel isDc inside firstOutside digits stuffed padded packed codeCount kraft holds distinct goodTable placeOf codeAt word cut kindOf oneMore ahead quiet plan order emit writeBlock writeBlocks tokens lacking spelled writeAc
+unfolding every firstFail orHere inLevel isDc inside firstOutside digits stuffed padded packed codeCount kraft holds distinct goodTable placeOf codeAt word cut acHalf kindOf oneMore ahead quiet plan order emit writeBlock writeBlocks tokens lacking spelled writeAc
 ac-writes = refl
 
 -- r of a run: "2^r + e", r below 15

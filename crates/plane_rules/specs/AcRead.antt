@@ -12,7 +12,7 @@ use mathlib.Core.Option.{Option, none, some}
 use Prim.Native.Nat.{ℕ, zero, suc, _+_, _-_, _*_, _/_, _%_, _^_}
 use lib.Dec.{eqb, ltb, leb}
 use lib.IntN.{ℤ, pos, negsuc}
-use lib.ListN.{length, take, drop}
+use lib.ListN.{length}
 use Rattle.laws.specs.Index.{every}
 use Rattle.answers.specs.Verdict.{Verdict, need, unless}
 use Rattle.levels.specs.Level.{firstOutside}
@@ -22,15 +22,9 @@ use Rattle.bit_rules.specs.Source.{Source, start, takeBit}
 use Rattle.bit_rules.specs.Reader.{Reader, _>>=_, done, fail}
 use Rattle.bit_rules.specs.Table.{Table, goodTable}
 use Rattle.bit_rules.specs.Read.{takeCode}
-use Rattle.plane_rules.specs.Plane.{readable, Plane, read, onto, inBlock, closed}
+use Rattle.bit_rules.specs.Number.{takeNumber}
+use Rattle.plane_rules.specs.Plane.{readable, parts, Plane, blocksFrom, closed}
 use Rattle.plane_rules.specs.Task.{Task, walk, ended, atZero, pass, over}
-
--- B1, R11: the number v with n more bits behind it, the highest first
-unfoldable pub takeNumber : ℕ → ℕ → Reader ℕ
-takeNumber zero v = done v
-takeNumber (suc n) v = do
-  b ← takeBit
-  takeNumber n (2 * v + bin b)
 
 -- R11, R12: "r more bits, value e; a run of 2^r + e blocks ends here, this one included"; 17 "as soon as e is read". `left`: blocks from this one on
 unfoldable pub endRun : ℕ → ℕ → Reader Task
@@ -84,15 +78,13 @@ acBlock T left o (c ∷ values) = do
   r ← acBlock T left (x .1) values
   done (x .0 ∷ r .0, r .1)
 
--- L2: n blocks of 63 values
+-- L2: n blocks, "63 for an AC plane"
 unfoldable pub cut : ℕ → List ℤ → List (List ℤ)
-cut zero values = []
-cut (suc n) values = take 63 values ∷ cut n (drop 63 values)
+cut n values = parts 63 n values
 
 -- R3, R5, R16: the block with this number and those after it
 unfoldable pub acBlocks : Table → ℕ → Option Task → List (List ℤ) → Source → Plane
-acBlocks T block o [] s = read [] s
-acBlocks T block o (b ∷ bs) s = inBlock block (λ r t. onto (r .0) (acBlocks T (suc block) (r .1) bs t)) (acBlock T (suc (length bs)) o b s)
+acBlocks T block o bs s = blocksFrom (λ p b later. acBlock T (suc (length later)) p b) block o bs s
 
 -- N7, K2, R2: reading: 20, 21, 10, 11, 9, then 12 to 18 as the bits are met
 unfoldable pub readAc : ℕ → ℕ → Table → List ℤ → List ℕ → ℕ → Verdict ℤ

@@ -10,7 +10,7 @@ use mathlib.Core.List.{List, [], _∷_, _++_, map}
 use mathlib.Core.Option.{Option, none, some}
 use Prim.Native.Nat.{ℕ, zero, suc, _+_, _-_, _*_, _/_, _^_}
 use lib.Dec.{eqb, ltb}
-use lib.IntN.{ℤ, pos, negsuc, negℤ}
+use lib.IntN.{ℤ, pos, negsuc, negℤ, natAbs}
 use lib.ListN.{length}
 use Rattle.laws.specs.Index.{every}
 use Rattle.laws.specs.declared.Found.{Found}
@@ -18,7 +18,7 @@ use Rattle.laws.specs.declared.Found.the-variants.{At, Nothing}
 use Rattle.answers.specs.Verdict.{Verdict, need, unless, fitting}
 use Rattle.levels.specs.Level.{firstOutside}
 use Rattle.levels.specs.declared.Part.the-variants.{Ac}
-use Rattle.bit_rules.specs.Digits.{odd, digits}
+use Rattle.bit_rules.specs.Digits.{digits}
 use Rattle.bit_rules.specs.Pack.{bytesOf}
 use Rattle.bit_rules.specs.Table.{Table, goodTable}
 use Rattle.bit_rules.specs.Write.{placeOf, word}
@@ -37,13 +37,15 @@ pub data Kind : Type 0 where
   still : Kind
   fresh : Bool → Kind
 
--- E4: 0 stays, 1 and -1 are new; of any other value the bit is 1 if it is odd
+-- E4: where the half is 0: a zero that stays, or a new value, "1 is positive"
+abbrev pub fromZero : ℤ → Kind
+fromZero (pos zero) = still
+fromZero (pos (suc n)) = fresh true
+fromZero (negsuc n) = fresh false
+
+-- E4: where it is not: the correction bit is 1 if the value lies further from zero than twice its half
 unfoldable pub kindOf : ℤ → Kind
-kindOf (pos zero) = still
-kindOf (pos (suc zero)) = fresh true
-kindOf (pos (suc (suc n))) = keep (odd n)
-kindOf (negsuc zero) = fresh false
-kindOf (negsuc (suc n)) = keep (odd n)
+kindOf value = cond (eqb (natAbs (acHalf value)) 0) (fromZero value) (keep (ltb (2 * natAbs (acHalf value)) (natAbs value)))
 
 -- E6: one zero more before the next new value
 unfoldable pub oneMore : Option (ℕ × Bool) → Option (ℕ × Bool)

@@ -15,7 +15,7 @@ use Rattle.bits.specs.Code.{unread, sourceOf}
 use Rattle.bits.proofs.Taking.{start-source}
 use Rattle.bit_rules.specs.declared.Stop.{Stop}
 use Rattle.bits.specs.declared.Cursor.{Cursor}
-use Rattle.plane_rules.specs.Plane.{Plane, read, broken, onto}
+use Rattle.plane_rules.specs.Plane.{Plane, read, refusing, onto}
 use Rattle.plane_rules.specs.Dc.{newDc, dcBlocks}
 use Rattle.planes.specs.Code.{planeOf, Ran}
 use Rattle.planes.specs.declared.Blocks.the-variants.{Read, Refused}
@@ -23,12 +23,12 @@ use Rattle.planes.specs.declared.Blocks.the-variants.{Read, Refused}
 pub onto-none : (p : Plane) → onto [] p ≡ p
 unfolding onto
 onto-none (read vs s) = refl
-onto-none (broken r) = refl
+onto-none (refusing r) = refl
 
 pub onto-onto : (vs ws : List ℤ) (p : Plane) → onto vs (onto ws p) ≡ onto (vs ++ ws) p
 unfolding onto
 onto-onto vs ws (read us s) = ap (λ (l : List ℤ). read l s) (sym (append-assoc vs ws us))
-onto-onto vs ws (broken r) = refl
+onto-onto vs ws (refusing r) = refl
 
 -- behind i blocks
 pub record Now (bytes : List ℕ) (values before now : List ℤ) (c : Cursor) (i : ℕ) : Type 0 where

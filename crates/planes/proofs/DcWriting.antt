@@ -1,5 +1,5 @@
 -- Putting the bits of DC values, and the verdict on the bytes. Assumes nothing.
-use mathlib.Core.Path.{_≡_, refl, ap, _∙_}
+use mathlib.Core.Path.{_≡_, refl, sym, ap, _∙_}
 use mathlib.Core.Bool.{Bool, true, false, not}
 use mathlib.Core.List.{List, [], _∷_, map}
 use Prim.Native.Nat.{ℕ, suc, _+_, _%_, _≤_, _<_}
@@ -19,6 +19,7 @@ use Rattle.bits.specs.Code.{Puts}
 use Rattle.bits.specs.declared.Putter.{Putter}
 use Rattle.bits.proofs.Putting.{Going, going-turn, going-end}
 use Rattle.plane_rules.specs.Dc.{dcBit}
+use Rattle.plane_rules.proofs.Halves.{bit-up, bit-down}
 
 -- a remainder that is not 0 is the low bit
 odd-up : (n : ℕ) → not (eqb (n % 2) 0) ≡ eqb (n % 2) 1
@@ -39,10 +40,9 @@ pub rest-fits : {v : ℤ} → SFits w32 v → SFits w32 (remZ v (pos 2))
 rest-fits {v} f = sfits-le (mag-rem v (pos 2)) f
 
 pub low-bit : (v : ℤ) → SFits w32 v → not (eqb (ofZ w32 (remZ v (pos 2))) 0) ≡ dcBit v
-unfolding dcBit
-low-bit (pos n) f = ap not (bits-zero w32 (pos (n % 2)) (rest-fits f)) ∙ odd-up n
+low-bit (pos n) f = ap not (bits-zero w32 (pos (n % 2)) (rest-fits f)) ∙ odd-up n ∙ sym (bit-up n)
 low-bit (negsuc n) f =
-    ap not (bits-zero w32 (negℤ (pos (suc n % 2))) (rest-fits f) ∙ ap (λ (k : ℕ). eqb k 0) (abs-neg (pos (suc n % 2)))) ∙ odd-down n
+    ap not (bits-zero w32 (negℤ (pos (suc n % 2))) (rest-fits f) ∙ ap (λ (k : ℕ). eqb k 0) (abs-neg (pos (suc n % 2)))) ∙ odd-down n ∙ sym (bit-down n)
 
 -- ---- the loop over the values
 

@@ -7,7 +7,7 @@ use lib.ListN.{length, getD, take, drop}
 use Rattle.bits.specs.Code.{sourceOf}
 use Rattle.answers.specs.Verdict.{outcomeOf}
 use Rattle.answers.specs.declared.Outcome.{Outcome}
-use Rattle.plane_rules.specs.Plane.{Plane, read, broken, closed}
+use Rattle.plane_rules.specs.Plane.{Plane, read, refusing, closed}
 use Rattle.planes.specs.declared.Blocks.{Blocks}
 use Rattle.planes.specs.declared.Blocks.the-variants.{Read, Refused}
 
@@ -18,7 +18,7 @@ Small values = (k : ℕ) → natAbs (getD values k (pos 0)) ≤ 32768
 -- N15: these values were read, or a refusal is given
 unfoldable pub planeOf : List ℕ → List ℤ → Blocks → Plane
 planeOf bytes values (Read c) = read values (sourceOf bytes c)
-planeOf bytes values (Refused r) = broken r
+planeOf bytes values (Refused r) = refusing r
 
 -- the code's blocks are those of the definition: n values stand in the destination, and what lies past them is kept
 pub record Ran (bytes : List ℕ) (n : ℕ) (plane : Plane) (before after : List ℤ) (r : Blocks) : Type 0 where

@@ -1,5 +1,5 @@
 -- `ac_plan::ahead_of` meets its contract: what is seen from here, behind the zeros passed, is what is seen from the start. Assumes nothing.
-use mathlib.Core.Path.{_≡_, refl, ap, _∙_}
+use mathlib.Core.Path.{refl, ap, _∙_}
 use mathlib.Core.Bool.{true, false}
 use Prim.Native.Nat.{_-_}
 use native.Mathlib.Omega.{arith}
@@ -9,6 +9,7 @@ use mir.Syntax.{w32}
 use mir.Val.{ofZ}
 use Rattle.laws.proofs.Integers.{back}
 use Rattle.plane_rules.specs.AcWrite.{kindOf}
+use Rattle.plane_rules.proofs.Halves.{kind-one, kind-minus-one}
 use Rattle.ac_plan.specs.Plan.{stillIs}
 use Rattle.ac_plan.proofs.KindTests.{is-one, is-minus-one}
 use Rattle.ac_plan.proofs.Looking.{Looked, look-start, look-end, look-on, look-new}
@@ -26,16 +27,14 @@ loop-holds : tie.Need-loop-holds Inv-loop μ-loop
 loop-holds c = look-start _ _
 
 returns : tie.Need-returns Inv-loop μ-loop
-unfolding kindOf
 returns c =
     let at-test = c .before .before in
-    look-new (at-test .before .loop .inv) (pos 1) true (at-test .loop-test .taken) (is-one (record { sfits = c .before .value .given }) (c .if1 .taken)) refl
+    look-new (at-test .before .loop .inv) (pos 1) true (at-test .loop-test .taken) (is-one (record { sfits = c .before .value .given }) (c .if1 .taken)) kind-one
 
 returns-2 : tie.Need-returns-2 Inv-loop μ-loop
-unfolding kindOf
 returns-2 c =
     let at-test = c .before .before .before in
-    look-new (at-test .before .loop .inv) (negsuc 0) false (at-test .loop-test .taken) (is-minus-one (record { sfits = c .before .before .value .given }) (c .if2 .taken)) refl
+    look-new (at-test .before .loop .inv) (negsuc 0) false (at-test .loop-test .taken) (is-minus-one (record { sfits = c .before .before .value .given }) (c .if2 .taken)) kind-minus-one
 
 add-zeros : tie.Need-add-zeros Inv-loop μ-loop
 add-zeros c =

@@ -5,7 +5,7 @@ use mir.Val.{ofZ}
 use mir.Facts.{toZ-ofZ}
 use Rattle.laws.proofs.Integers.{half-fits}
 use Rattle.planes.proofs.DcWriting.{rest-fits}
-use Rattle.plane_rules.specs.AcWrite.{kindOf}
+use Rattle.plane_rules.proofs.Halves.{kind-zero, kind-one, kind-minus-one}
 use Rattle.ac_plan.specs.Plan.{kindIs}
 use Rattle.ac_plan.proofs.KindTests.{is-zero, is-one, is-minus-one, kept}
 use borrow.Author.Needs.{needs}
@@ -13,16 +13,16 @@ use Rattle.ac_plan.proofs.kind_of.Statement.{statement}
 use Rattle.ac_plan.proofs.kind_of.Tie as tie
 
 returns : tie.Need-returns
-unfolding kindIs kindOf
-returns c = rw (is-zero (c .before .fits .value) (c .if1 .taken))
+unfolding kindIs
+returns c = rw (is-zero (c .before .fits .value) (c .if1 .taken), kind-zero)
 
 returns-2 : tie.Need-returns-2
-unfolding kindIs kindOf
-returns-2 c = rw (is-one (c .before .before .fits .value) (c .if2 .taken))
+unfolding kindIs
+returns-2 c = rw (is-one (c .before .before .fits .value) (c .if2 .taken), kind-one)
 
 returns-3 : tie.Need-returns-3
-unfolding kindIs kindOf
-returns-3 c = rw (is-minus-one (c .before .before .before .fits .value) (c .if3 .taken))
+unfolding kindIs
+returns-3 c = rw (is-minus-one (c .before .before .before .fits .value) (c .if3 .taken), kind-minus-one)
 
 rem-t3 : tie.Need-rem-t3
 rem-t3 c =

@@ -1,25 +1,22 @@
 -- `ac_tasks::block_end` meets its contract. Assumes nothing.
 use mathlib.Core.Path.{ap}
 use Rattle.ac_tasks.specs.Code.{taskOf}
-use Rattle.ac_tasks.proofs.Tasks.{ends-none, ends-walk, ends-last, ends-run}
+use Rattle.ac_tasks.proofs.Tasks.{ends-none, ends-walk, ends-run}
 use borrow.Author.Needs.{needs}
 use Rattle.ac_tasks.proofs.block_end.Statement.{statement}
 use Rattle.ac_tasks.proofs.block_end.Tie as tie
 
 returns : tie.Need-returns
-returns c = ends-last (c .before .before .before .before .before .task .given .1) (c .before .before .job .given .1) (c .if1 .taken)
+returns c = ends-none (c .enum-told .given .1)
 
 returns-2 : tie.Need-returns-2
-returns-2 c = ends-none (c .enum-told .given .1)
+returns-2 c = ends-walk (c .before .before .before .task .given .1) (ap taskOf (c .enum-told2 .given .1))
 
 returns-3 : tie.Need-returns-3
-returns-3 c = ends-walk (c .before .before .before .task .given .1) (ap taskOf (c .enum-told2 .given .1))
+returns-3 c = ends-walk (c .before .before .before .task .given .1) (ap taskOf (c .enum-told3 .given .1))
 
 returns-4 : tie.Need-returns-4
-returns-4 c = ends-walk (c .before .before .before .task .given .1) (ap taskOf (c .enum-told3 .given .1))
-
-returns-5 : tie.Need-returns-5
-returns-5 c = ends-run (c .before .before .before .before .before .task .given .1) (c .before .before .job .given .1) (c .if1 .left)
+returns-4 c = ends-run (c .before .before .before .before .task .given .1) (c .before .enum-told4 .given .1) (c .over-job .ensures)
 
 pub block-end-spec : {M : Type 1} → statement M
 block-end-spec =
@@ -30,9 +27,8 @@ block-end-spec =
     (λ c. search needs)
     (λ c. search needs)
     (λ c. search needs)
+    (λ c κs. search needs)
     returns
-    (λ c. search needs)
     returns-2
     returns-3
-    returns-4
-    returns-5)
+    returns-4)

@@ -1,8 +1,8 @@
--- `ac_plan::over_job` meets its contract. Assumes nothing.
-use Rattle.ac_plan.proofs.Tasks.{over-on}
+-- `ac_tasks::over_job` meets its contract. Assumes nothing.
+use Rattle.ac_tasks.proofs.Tasks.{over-on}
 use borrow.Author.Needs.{needs}
-use Rattle.ac_plan.proofs.over_job.Statement.{statement}
-use Rattle.ac_plan.proofs.over_job.Tie as tie
+use Rattle.ac_tasks.proofs.over_job.Statement.{statement}
+use Rattle.ac_tasks.proofs.over_job.Tie as tie
 
 returns : tie.Need-returns
 returns c = rw (c .before .before .job .given .1, c .if1 .taken)

@@ -1,7 +1,7 @@
--- `ac_plan::over` meets its contract. Assumes nothing.
+-- `ac_tasks::over` meets its contract. Assumes nothing.
 use borrow.Author.Needs.{needs}
-use Rattle.ac_plan.proofs.over.Statement.{statement}
-use Rattle.ac_plan.proofs.over.Tie as tie
+use Rattle.ac_tasks.proofs.over.Statement.{statement}
+use Rattle.ac_tasks.proofs.over.Tie as tie
 
 returns : tie.Need-returns
 returns c = rw (c .enum-told .given .1)

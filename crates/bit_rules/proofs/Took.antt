@@ -1,0 +1,57 @@
+-- What taking a bit comes to, by what was pending and coming; the laws of readers cite this and not how a source is made. Assumes nothing.
+use mathlib.Core.Path.{_≡_, refl, ap, _∙_}
+use mathlib.Core.Logic.{_⊎_, inl, inr}
+use mathlib.Core.Bool.{Bool, false}
+use mathlib.Core.List.{List, [], _∷_}
+use Prim.Native.Nat.{ℕ, zero, suc, _+_}
+use lib.Dec.{eqb}
+use borrow.Author.Tests.{eqb-true}
+use Rattle.laws.proofs.Choices.{by-test}
+use Rattle.bit_rules.specs.Digits.{digits}
+use Rattle.bit_rules.specs.Source.{Source, Out, got, stopped, opened, afterFF, nextByte, takeFrom, takeBit}
+
+-- the first of the bits in hand
+pub record InHand (s : Source) (b : Bool) (t : Source) : Type 0 where
+  pub pending : s .pending ≡ b ∷ t .pending
+  pub coming : s .coming ≡ t .coming
+  pub seen : t .seen ≡ s .seen
+
+-- the first of a byte that is not FF
+pub record OfByte (s : Source) (b : Bool) (t : Source) : Type 0 where
+  pub byte : ℕ
+  pub plain : eqb byte 255 ≡ false
+  pub pending : s .pending ≡ []
+  pub coming : s .coming ≡ byte ∷ t .coming
+  pub bits : digits 8 byte ≡ b ∷ t .pending
+  pub seen : t .seen ≡ s .seen + 1
+
+-- the first of FF, its 00 read with it
+pub record OfFF (s : Source) (b : Bool) (t : Source) : Type 0 where
+  pub pending : s .pending ≡ []
+  pub coming : s .coming ≡ 255 ∷ 0 ∷ t .coming
+  pub bits : digits 8 255 ≡ b ∷ t .pending
+  pub seen : t .seen ≡ s .seen + 2
+
+-- a bit that is not there is 12 or 13
+abbrev pub Took : Source → Out Bool → Type 0
+Took s (got b t) = InHand s b t ⊎ (OfByte s b t ⊎ OfFF s b t)
+Took s (stopped x) = (x .number ≡ 12) ⊎ (x .number ≡ 13)
+
+pub took : (s : Source) → Took s (takeBit s)
+unfolding digits takeBit takeFrom nextByte afterFF opened
+took s = from (s .pending) refl
+  where
+    after-ff : (d : List ℕ) → s .pending ≡ [] → s .coming ≡ 255 ∷ d → Took s (afterFF d (s .seen))
+    after-ff [] e f = inl refl
+    after-ff (zero ∷ d) e f = inr (inr (record { pending = e; coming = f; bits = refl; seen = refl }))
+    after-ff (suc v ∷ d) e f = inr refl
+
+    next : (d : List ℕ) → s .pending ≡ [] → s .coming ≡ d → Took s (nextByte d (s .seen))
+    next [] e f = inl refl
+    next (byte ∷ d) e f =
+        by-test (Took s) (eqb byte 255) (λ q. after-ff d e (f ∙ ap (λ (v : ℕ). v ∷ d) (eqb-true byte 255 q)))
+        (λ q. inr (inl (record { byte = byte; plain = q; pending = e; coming = f; bits = refl; seen = refl })))
+
+    from : (p : List Bool) → s .pending ≡ p → Took s (takeFrom p (s .coming) (s .seen))
+    from [] e = next (s .coming) e refl
+    from (b ∷ p) e = inl (record { pending = e; coming = refl; seen = refl })
