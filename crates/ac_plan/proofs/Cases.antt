@@ -9,7 +9,7 @@ use lib.ListN.{replicate}
 use Rattle.plane_rules.specs.Task.{walk, ended, over}
 use Rattle.plane_rules.specs.AcRead.{cut}
 use Rattle.plane_rules.specs.AcWrite.{acHalf, keep, still, fresh, kindOf, oneMore, ahead, quiet, plan, after}
-use Rattle.ac_plan.specs.Plan.{kindsFrom, kindBlocks}
+use Rattle.ac_plan.specs.Code.{kindsFrom, kindBlocks}
 
 abbrev zeros : ℕ → List ℤ
 zeros n = replicate n (pos 0)

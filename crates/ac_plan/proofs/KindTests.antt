@@ -14,7 +14,7 @@ use Rattle.bit_rules.specs.Digits.{odd}
 use Rattle.plane_rules.specs.AcWrite.{keep, kindOf}
 use Rattle.plane_rules.proofs.Halves.{bit-up, bit-down, kind-one, kind-minus-one, kind-up, kind-down}
 use Rattle.planes.proofs.DcWriting.{low-bit}
-use Rattle.ac_plan.specs.Plan.{stillIs}
+use Rattle.ac_plan.specs.Code.{stillIs}
 
 -- equal bits, equal numbers
 pub is-zero : {v : ℤ} → SFits w32 v → ofZ w32 v ≡ 0 → v ≡ pos 0

@@ -13,7 +13,7 @@ use Rattle.bit_rules.specs.Digits.{odd}
 use Rattle.plane_rules.specs.AcRead.{cut}
 use Rattle.plane_rules.specs.AcWrite.{Kind, fresh, kindOf, ahead, oneMore, quiet, unlessNew}
 use Rattle.plane_rules.proofs.Halves.{kind-zero, kind-up, kind-down}
-use Rattle.ac_plan.specs.Plan.{kindsFrom, kindBlocks, kindIs, stillIs, comingIs}
+use Rattle.ac_plan.specs.Code.{kindsFrom, kindBlocks, kindIs, stillIs, comingIs}
 use Rattle.ac_plan.specs.declared.Change.{Change}
 use Rattle.ac_plan.specs.declared.Change.the-variants.{Kept, Still, Fresh}
 use Rattle.ac_plan.specs.declared.Coming.{Coming}

@@ -7,7 +7,7 @@ use native.Mathlib.Omega.{arith}
 use borrow.Author.Tests.{lt-ltb, le-ltb}
 use Rattle.plane_rules.specs.AcWrite.{Kind, ahead, quiet, plan}
 use Rattle.ac_tasks.specs.declared.Job.the-variants.{Leave, Set, Ended}
-use Rattle.ac_plan.specs.Plan.{comingIs, Planned}
+use Rattle.ac_plan.specs.Code.{comingIs, Planned}
 use Rattle.ac_plan.specs.declared.Coming.{Coming}
 use Rattle.ac_plan.specs.declared.Coming.the-variants.{Value, Quiet}
 

@@ -3,7 +3,7 @@ ghost use mathlib.Core.Path.{_≡_};
 ghost use Prim.Native.Nat.{_*_, _≤_};
 ghost use lib.ListN.{length};
 ghost use Rattle.plane_rules.specs.AcWrite as written;
-ghost use Rattle.ac_plan.specs.Plan.{kindsFrom, kindBlocks, kindIs, stillIs, comingIs, Planned};
+ghost use Rattle.ac_plan.specs.Code.{kindsFrom, kindBlocks, kindIs, stillIs, comingIs, Planned};
 use ac_tasks::Job;
 
 // A value against its half: its correction bit, a zero that stays, or a new value with its sign.

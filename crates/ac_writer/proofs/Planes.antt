@@ -13,10 +13,10 @@ use Rattle.bit_rules.specs.Table.{Table, goodTable}
 use Rattle.plane_rules.specs.Task.{Task}
 use Rattle.plane_rules.specs.AcWrite.{Kind, writeBlock, writeBlocks, tokens}
 use Rattle.ac_tasks.specs.Code.{openOf}
-use Rattle.ac_plan.specs.Plan.{kindsFrom, kindBlocks}
+use Rattle.ac_plan.specs.Code.{kindsFrom, kindBlocks}
 use Rattle.ac_tasks.specs.declared.Open.the-variants.{Nothing}
 use Rattle.ac_plan.proofs.Looking.{blocks-cons, blocks-end, blocks-start}
-use Rattle.ac_writer.specs.Telling.{newPen, Told, Moves}
+use Rattle.ac_writer.specs.Code.{newPen, Told, Moves}
 use Rattle.ac_writer.specs.declared.State.{State}
 use Rattle.ac_writer.proofs.Tokens.{Telling, telling-start, telling-turn, telling-end}
 use Rattle.ac_writer.proofs.Lengths.{plane-length}

@@ -18,11 +18,11 @@ use Rattle.ac_tasks.specs.declared.Job.{Job}
 use Rattle.ac_tasks.specs.declared.Job.the-variants.{Leave, Set, Ended}
 use Rattle.ac_tasks.specs.declared.Open.{Open}
 use Rattle.ac_tasks.specs.declared.Open.the-variants.{Nothing, Doing}
-use Rattle.ac_plan.specs.Plan.{kindsFrom, kindIs, Short, Planned}
+use Rattle.ac_plan.specs.Code.{kindsFrom, kindIs, Short, Planned}
 use Rattle.ac_plan.specs.declared.Change.{Change}
 use Rattle.ac_plan.specs.declared.Change.the-variants.{Kept, Still, Fresh}
 use Rattle.ac_plan.proofs.Looking.{kinds-cons, kinds-end}
-use Rattle.ac_writer.specs.Telling.{PenReady, Told, Begins, Carries, Works, Moves}
+use Rattle.ac_writer.specs.Code.{PenReady, Told, Begins, Carries, Works, Moves}
 use Rattle.ac_writer.specs.declared.Pen.{Pen}
 use Rattle.ac_writer.specs.declared.State.{State}
 use Rattle.ac_writer.specs.declared.Begun.{Begun}

@@ -16,7 +16,7 @@ use Rattle.bit_rules.specs.Write.{placeOf, codeOf, word}
 use Rattle.codes.specs.Code.{absent, Entered}
 use Rattle.plane_rules.specs.Task.{ended}
 use Rattle.plane_rules.specs.AcWrite.{Token, code, raw, class, emit, orElse, lacking, spelled}
-use Rattle.ac_writer.specs.Telling.{firstOf, Told}
+use Rattle.ac_writer.specs.Code.{firstOf, Told}
 use Rattle.ac_writer.specs.declared.Pen.{Pen}
 use Rattle.ac_writer.proofs.Classes.{run-bits}
 

@@ -1,8 +1,9 @@
--- What the code's cursor, answers and putter stand for.
+-- What the code's cursor, the reader that holds its data, answers and putter stand for.
 use mathlib.Core.Path.{_≡_}
 use mathlib.Core.Bool.{Bool}
 use mathlib.Core.List.{List, [], _∷_, _++_}
 use Prim.Native.Nat.{ℕ, zero, suc, _+_, _-_, _*_, _/_, _%_, _^_, _≤_, _<_}
+use denote.Ref.{RefT}
 use lib.Dec.{eqb}
 use lib.ListN.{length, drop}
 use lib.Seq.{sets}
@@ -10,6 +11,7 @@ use Rattle.bit_rules.specs.Source.{Source, source, Out, got, stopped}
 use Rattle.bit_rules.specs.Pack.{packed}
 use Rattle.bits.specs.declared.Cursor.{Cursor}
 use Rattle.bits.specs.declared.Putter.{Putter}
+use Rattle.bits.specs.declared.reader.BitReader.{BitReader}
 use Rattle.bits.specs.declared.Taken.{Taken}
 use Rattle.bits.specs.declared.Taken.the-variants.{Bit, Stopped}
 
@@ -36,6 +38,14 @@ takenOf bytes (Stopped x) = stopped x
 -- the highest bit of a byte, and the byte moved up by one
 unfoldable pub topOf : ℕ → ℕ → ℕ → Taken
 topOf at left byte = Bit (eqb (byte / 128) 1) (record { at = at; left = left; byte = byte % 128 * 2 })
+
+-- the reader that holds these data, at this cursor
+abbrev pub readerAt : RefT (List ℕ) → Cursor → BitReader
+readerAt bytes c = record { «data» = bytes; at = c .at; left = c .left; byte = c .byte }
+
+-- the cursor of a reader: with its data it stands for a source, by `sourceOf`
+abbrev pub cursorOf : BitReader → Cursor
+cursorOf r = record { at = r .at; left = r .left; byte = r .byte }
 
 -- ---- the putter
 

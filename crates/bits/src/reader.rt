@@ -6,8 +6,7 @@ use crate::only_padding;
 use crate::take_bit;
 ghost use mathlib.Core.Path.{_≡_};
 ghost use Rattle.bit_rules.specs.Source.{takeBit, onlyPadding};
-ghost use Rattle.bits.specs.Code.{sourceOf, takenOf};
-ghost use Rattle.bits.specs.Held.{cursorOf};
+ghost use Rattle.bits.specs.Code.{sourceOf, takenOf, cursorOf};
 
 // The data, and the numbers of a cursor in them.
 pub struct BitReader<'a> {

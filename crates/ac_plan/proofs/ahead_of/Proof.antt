@@ -10,7 +10,7 @@ use mir.Val.{ofZ}
 use Rattle.laws.proofs.Integers.{back}
 use Rattle.plane_rules.specs.AcWrite.{kindOf}
 use Rattle.plane_rules.proofs.Halves.{kind-one, kind-minus-one}
-use Rattle.ac_plan.specs.Plan.{stillIs}
+use Rattle.ac_plan.specs.Code.{stillIs}
 use Rattle.ac_plan.proofs.KindTests.{is-one, is-minus-one}
 use Rattle.ac_plan.proofs.Looking.{Looked, look-start, look-end, look-on, look-new}
 use borrow.Author.Needs.{needs}

@@ -3,7 +3,7 @@ use mathlib.Core.Path.{_≡_, refl, ap, _∙_}
 use Prim.Native.Nat.{ℕ, _+_, _-_, _*_}
 use lib.ListN.{take, drop}
 use Rattle.plane_rules.specs.AcWrite.{ahead}
-use Rattle.ac_plan.specs.Plan.{kindsFrom, comingIs}
+use Rattle.ac_plan.specs.Code.{kindsFrom, comingIs}
 use Rattle.ac_plan.proofs.Looking.{Passed, passed-none, passed-all, passed-one, passed-new}
 use native.Mathlib.Omega.{arith}
 use borrow.Author.Needs.{needs}

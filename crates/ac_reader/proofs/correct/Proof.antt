@@ -4,7 +4,7 @@ use mir.Syntax.{w32}
 use mir.Facts.{toZ-ofZ}
 use Rattle.laws.proofs.Integers.{back}
 use Rattle.bits.specs.Code.{takenOf}
-use Rattle.ac_reader.specs.Walk.{fixedOf, fixing}
+use Rattle.ac_reader.specs.Code.{fixedOf, fixing}
 use borrow.Author.Needs.{needs}
 use Rattle.ac_reader.proofs.correct.Statement.{statement}
 use Rattle.ac_reader.proofs.correct.Tie as tie

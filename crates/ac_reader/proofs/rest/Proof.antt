@@ -8,7 +8,7 @@ use mir.Syntax.{w32}
 use mir.Val.{toZ, ofZ}
 use Rattle.laws.proofs.Integers.{back}
 use Rattle.plane_rules.specs.Task as task
-use Rattle.ac_reader.specs.Walk.{fixedOf, Carries}
+use Rattle.ac_reader.specs.Code.{fixedOf, Carries}
 use Rattle.ac_reader.proofs.Positions.{carries-none, carries-end, carries-zero, carries-stopped, carries-fixed}
 use native.Mathlib.Omega.{arith}
 use borrow.Author.Needs.{needs}

@@ -8,7 +8,7 @@ use mir.Syntax.{w32}
 use mir.Val.{toZ, ofZ}
 use Rattle.laws.proofs.Integers.{back}
 use Rattle.plane_rules.specs.Task as task
-use Rattle.ac_reader.specs.Walk.{aim, fixedOf, Carries}
+use Rattle.ac_reader.specs.Code.{aim, fixedOf, Carries}
 use Rattle.ac_reader.proofs.Positions.{carries-none, carries-landed, carries-passed, carries-stopped, carries-fixed, carries-past}
 use native.Mathlib.Omega.{arith}
 use borrow.Author.Needs.{needs}

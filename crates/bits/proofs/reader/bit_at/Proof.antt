@@ -36,8 +36,7 @@ use denote.Triple.Walked.{says, Stays, stay-none, stay-none-slice, walkOf, goes-
 use denote.Exit.{yes}
 use denote.Triple.Clauses.{ensured, lasts}
 use Rattle.bit_rules.specs.Source.{takeBit}
-use Rattle.bits.specs.Code.{sourceOf, takenOf}
-use Rattle.bits.specs.Held.{readerAt}
+use Rattle.bits.specs.Code.{sourceOf, takenOf, readerAt}
 use Rattle.bits.specs.declared.Cursor.{Cursor}
 use Rattle.bits.specs.declared.Taken.{Taken}
 use Rattle.bits.proofs.Cursor as C

@@ -37,8 +37,7 @@ use denote.Triple.Walked.{says, Stays, stay-none, stay-none-slice, walkOf, goes-
 use denote.Exit.{yes}
 use denote.Triple.Clauses.{ensured, lasts}
 use Rattle.bit_rules.specs.Source.{onlyPadding}
-use Rattle.bits.specs.Code.{sourceOf}
-use Rattle.bits.specs.Held.{readerAt}
+use Rattle.bits.specs.Code.{sourceOf, readerAt}
 use Rattle.bits.specs.declared.Cursor.{Cursor}
 use Rattle.bits.specs.declared.reader.BitReader.{BitReader}
 use Rattle.bits.proofs.Cursor as C

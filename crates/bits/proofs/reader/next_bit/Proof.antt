@@ -34,8 +34,7 @@ use denote.Triple.Walked.{says, Stays, stay-none, walkOf, goes-none, Walks, ends
 use denote.Exit.{yes}
 use denote.Triple.Clauses.{ensured, lasts}
 use Rattle.bit_rules.specs.Source.{takeBit}
-use Rattle.bits.specs.Code.{sourceOf, takenOf}
-use Rattle.bits.specs.Held.{cursorOf}
+use Rattle.bits.specs.Code.{sourceOf, takenOf, cursorOf}
 use Rattle.bits.specs.declared.Taken.{Taken}
 use Rattle.bits.specs.declared.reader.BitReader.{BitReader}
 use Rattle.bits.proofs.Cursor.Laws as C′

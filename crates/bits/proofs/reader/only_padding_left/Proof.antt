@@ -36,8 +36,7 @@ use denote.Triple.Walked.{says, Stays, stay-none, walkOf, goes-none, Walks, ends
 use denote.Exit.{yes}
 use denote.Triple.Clauses.{ensured, lasts}
 use Rattle.bit_rules.specs.Source.{onlyPadding}
-use Rattle.bits.specs.Code.{sourceOf}
-use Rattle.bits.specs.Held.{cursorOf}
+use Rattle.bits.specs.Code.{sourceOf, cursorOf}
 use Rattle.bits.specs.declared.reader.BitReader.{BitReader}
 use Rattle.bits.proofs.Cursor.Laws as C′
 use Rattle.bits.proofs.reader.BitReader as T

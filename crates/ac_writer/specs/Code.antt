@@ -13,7 +13,7 @@ use Rattle.bit_rules.specs.Table.{Table, goodTable}
 use Rattle.codes.specs.Code.{Entries}
 use Rattle.plane_rules.specs.Task.{Task}
 use Rattle.plane_rules.specs.AcWrite.{Kind, Token, raw, choose, tell, writeBlock, lacking, spelled}
-use Rattle.ac_plan.specs.Plan.{kindsFrom}
+use Rattle.ac_plan.specs.Code.{kindsFrom}
 use Rattle.bits.specs.declared.Putter.{Putter}
 use Rattle.ac_tasks.specs.Code.{taskOf, openOf}
 use Rattle.ac_writer.specs.declared.Pen.{Pen}
