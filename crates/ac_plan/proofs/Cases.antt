@@ -1,4 +1,4 @@
--- What the AC writer sees in its values and does at a position, on each side of each edge (E4 to E8), worked out by hand and computed over the definitions. Assumes nothing.
+-- What the AC writer sees in its values, on each side of each edge (E4 to E8), worked out by hand and computed over the definitions. Assumes nothing.
 use mathlib.Core.Path.{_≡_, refl}
 use mathlib.Core.List.{List, [], _∷_, _++_, map}
 use mathlib.Core.Bool.{true, false}
@@ -6,9 +6,9 @@ use mathlib.Core.Option.{none, some}
 use Prim.Native.Nat.{ℕ}
 use lib.IntN.{ℤ, pos, negsuc}
 use lib.ListN.{replicate}
-use Rattle.plane_rules.specs.Task.{walk, ended, over}
+use Rattle.plane_rules.specs.Task.{walk, ended}
 use Rattle.plane_rules.specs.AcRead.{cut}
-use Rattle.plane_rules.specs.AcWrite.{acHalf, keep, still, fresh, kindOf, oneMore, ahead, quiet, plan, after}
+use Rattle.plane_rules.specs.AcWrite.{acHalf, keep, still, fresh, kindOf, oneMore, ahead, quiet, plan}
 use Rattle.ac_plan.specs.Code.{kindsFrom, kindBlocks}
 
 abbrev zeros : ℕ → List ℤ
@@ -54,19 +54,3 @@ pub run-lengths : map (λ (later : List ℤ × ℕ). plan [] (kindBlocks (later 
     ≡ (ended 0 ∷ ended 1 ∷ ended 2 ∷ ended 0 ∷ ended 1 ∷ ended 1 ∷ ended 2 ∷ [])
 unfolding kindBlocks cut acHalf kindOf oneMore ahead quiet plan
 run-lengths = refl
-
--- "a run of 2^r + e blocks ends here, this one included": a run goes from block to block, a walk does not
-pub between-blocks : map over (none ∷ some (ended 0) ∷ some (ended 1) ∷ some (ended 5) ∷ some (walk 3 none) ∷ []) ≡ (none ∷ none ∷ some (ended 0) ∷ some (ended 4) ∷ none ∷ [])
-between-blocks = refl
-
--- a correction passes no zero; the last zero ends a walk; an end run goes on
-pub between-values : (
-    after (walk 1 none) (keep true)
-    ∷ after (walk 1 none) still
-    ∷ after (walk 0 none) still
-    ∷ after (walk 0 (some true)) (fresh true)
-    ∷ after (ended 2) still
-    ∷ after (ended 2) (keep false)
-    ∷ [])
-    ≡ (some (walk 1 none) ∷ some (walk 0 none) ∷ none ∷ none ∷ some (ended 2) ∷ some (ended 2) ∷ [])
-between-values = refl

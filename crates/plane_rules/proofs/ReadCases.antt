@@ -1,6 +1,7 @@
 -- Readings of DC and AC planes worked out by hand from the rules: both sides of each edge, each two neighbours in the order of refusals as one input, places told apart. Assumes nothing.
 use mathlib.Core.Path.{_≡_, refl}
 use mathlib.Core.List.{List, [], _∷_, _++_, map}
+use mathlib.Core.Option.{none, some}
 use Prim.Native.Nat.{ℕ}
 use lib.IntN.{ℤ, pos, negsuc}
 use lib.ListN.{replicate}
@@ -13,6 +14,7 @@ use Rattle.bit_rules.specs.Source.{opened, afterFF, nextByte, takeFrom, takeBit
 use Rattle.bit_rules.specs.Table.{Table, table, codeCount, kraft, holds, distinct, goodTable}
 use Rattle.bit_rules.specs.Read.{codeFrom, takeCode}
 use Rattle.plane_rules.specs.Plane.{onto, closed}
+use Rattle.plane_rules.specs.Task.{walk, ended, over}
 use Rattle.plane_rules.specs.Dc.{newDc, dcBlocks, readDc}
 use Rattle.bit_rules.specs.Number.{takeNumber}
 use Rattle.plane_rules.specs.AcRead.{endRun, meaning, taskAt, position, blockEnd, acBlock, cut, acBlocks, readAc}
@@ -154,3 +156,7 @@ acReads =
 pub ac-reads : Holds acReads
 unfolding every firstFail orHere inLevel isDc inside firstOutside digits opened afterFF nextByte takeFrom takeBit onlyPadding codeCount kraft holds distinct goodTable codeFrom takeCode onto closed takeNumber endRun meaning taskAt position blockEnd acBlock cut acBlocks readAc
 ac-reads = refl
+
+-- "a run of 2^r + e blocks ends here, this one included": a run goes from block to block, a walk does not
+pub between-blocks : map over (none ∷ some (ended 0) ∷ some (ended 1) ∷ some (ended 5) ∷ some (walk 3 none) ∷ []) ≡ (none ∷ none ∷ some (ended 0) ∷ some (ended 4) ∷ none ∷ [])
+between-blocks = refl

@@ -1,6 +1,8 @@
 -- DC and AC planes written, worked out by hand from the rules: both sides of each edge, each two neighbours in the order of refusals as one input, places told apart. Assumes nothing.
 use mathlib.Core.Path.{_≡_, refl}
 use mathlib.Core.List.{List, [], _∷_, _++_, map}
+use mathlib.Core.Bool.{true, false}
+use mathlib.Core.Option.{none, some}
 use Prim.Native.Nat.{ℕ}
 use lib.IntN.{pos, negsuc}
 use lib.ListN.{replicate}
@@ -12,8 +14,9 @@ use Rattle.bit_rules.specs.Pack.{stuffed, padded, packed}
 use Rattle.bit_rules.specs.Table.{Table, table, codeCount, kraft, holds, distinct, goodTable}
 use Rattle.bit_rules.specs.Write.{placeOf, codeAt, word}
 use Rattle.plane_rules.specs.Dc.{dcHalf, dcBit, writeDc}
+use Rattle.plane_rules.specs.Task.{walk, ended}
 use Rattle.plane_rules.specs.AcRead.{cut}
-use Rattle.plane_rules.specs.AcWrite.{acHalf, kindOf, oneMore, ahead, quiet, plan, order, class, emit, writeBlock, writeBlocks, tokens, lacking, spelled, writeAc}
+use Rattle.plane_rules.specs.AcWrite.{acHalf, keep, still, fresh, kindOf, oneMore, ahead, quiet, plan, order, class, emit, after, writeBlock, writeBlocks, tokens, lacking, spelled, writeAc}
 use Rattle.plane_rules.proofs.Cases.{block}
 use Rattle.plane_rules.proofs.ReadCases.{Case, _gives_, _refuses_at_, Holds, zeros, atFive, noTable}
 
@@ -125,3 +128,15 @@ ac-writes = refl
 pub classes : map class (1 ∷ 2 ∷ 3 ∷ 4 ∷ 1023 ∷ 1024 ∷ 16383 ∷ 16384 ∷ 32768 ∷ []) ≡ 0 ∷ 1 ∷ 1 ∷ 2 ∷ 9 ∷ 10 ∷ 13 ∷ 14 ∷ 14 ∷ []
 unfolding order
 classes = refl
+
+-- a correction passes no zero; the last zero ends a walk; an end run goes on
+pub between-values : (
+    after (walk 1 none) (keep true)
+    ∷ after (walk 1 none) still
+    ∷ after (walk 0 none) still
+    ∷ after (walk 0 (some true)) (fresh true)
+    ∷ after (ended 2) still
+    ∷ after (ended 2) (keep false)
+    ∷ [])
+    ≡ (some (walk 1 none) ∷ some (walk 0 none) ∷ none ∷ none ∷ some (ended 2) ∷ some (ended 2) ∷ [])
+between-values = refl
