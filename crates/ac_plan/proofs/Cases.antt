@@ -9,7 +9,9 @@ use lib.ListN.{replicate}
 use Rattle.plane_rules.specs.Task.{walk, ended}
 use Rattle.plane_rules.specs.AcRead.{cut}
 use Rattle.plane_rules.specs.AcWrite.{acHalf, keep, still, fresh, kindOf, oneMore, ahead, quiet, plan}
-use Rattle.ac_plan.specs.Code.{kindsFrom, kindBlocks}
+use Rattle.ac_plan.specs.Code.{kindsFrom, kindBlocks, kindIs, comingIs}
+use Rattle.ac_plan.specs.declared.Change.the-variants.{Kept, Still, Fresh}
+use Rattle.ac_plan.specs.declared.Coming.the-variants.{Value, Quiet}
 
 abbrev zeros : ℕ → List ℤ
 zeros n = replicate n (pos 0)
@@ -54,3 +56,8 @@ pub run-lengths : map (λ (later : List ℤ × ℕ). plan [] (kindBlocks (later 
     ≡ (ended 0 ∷ ended 1 ∷ ended 2 ∷ ended 0 ∷ ended 1 ∷ ended 1 ∷ ended 2 ∷ [])
 unfolding kindBlocks cut acHalf kindOf oneMore ahead quiet plan
 run-lengths = refl
+
+-- what the code's enums stand for
+pub enums : (kindIs (Kept true) ≡ keep true) × (kindIs Still ≡ still) × (kindIs (Fresh false) ≡ fresh false) × (comingIs (Value 3 true) ≡ some (3, true)) × (comingIs Quiet ≡ none)
+unfolding kindIs comingIs
+enums = (refl, refl, refl, refl, refl)

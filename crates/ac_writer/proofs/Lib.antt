@@ -3,4 +3,3 @@ pub mod Classes
 pub mod Lengths
 pub mod Positions
 pub mod Planes
-pub mod Cases

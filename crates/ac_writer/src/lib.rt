@@ -81,7 +81,8 @@ fn or_lacking(lack: Found, value: u8) -> Found
 fn tell_code(destination: &mut [u8], entries: &[u32; 256], pen: Pen, value: u8) -> Pen
     requires { ⌜ PenReady pen ⌝ }
     requires { ⌜ Known (now entries) ⌝ }
-    ensures { λ r. ⌜ ((T : Table) → Coded T (now (entries .entry)) → Told T (now (destination .entry)) (now (destination .exit)) pen r (written.code value ∷ [])) ⌝ }
+    ensures { λ r. ⌜ ((T : Table) → Coded T (now (entries .entry))
+        → Told T (now (destination .entry)) (now (destination .exit)) pen r (written.code value ∷ [])) ⌝ }
 {
     let p = pen.putter;
     let lack = pen.lack;
@@ -129,7 +130,8 @@ fn class_of(n: usize) -> usize
 fn tell_run(destination: &mut [u8], entries: &[u32; 256], pen: Pen, n: usize) -> Pen
     requires { ⌜ PenReady pen ⌝ }
     requires { ⌜ Known (now entries) × (n ≤ 1024) ⌝ }
-    ensures { λ r. ⌜ ((T : Table) → Coded T (now (entries .entry)) → Told T (now (destination .entry)) (now (destination .exit)) pen r (written.emit (ended n))) ⌝ }
+    ensures { λ r. ⌜ ((T : Table) → Coded T (now (entries .entry))
+        → Told T (now (destination .entry)) (now (destination .exit)) pen r (written.emit (ended n))) ⌝ }
 {
     let r = class_of(n + 1);
     let q = tell_code(destination, entries, pen, (16 * r) as u8);
@@ -143,7 +145,8 @@ fn tell_run(destination: &mut [u8], entries: &[u32; 256], pen: Pen, n: usize) ->
 fn emit(destination: &mut [u8], entries: &[u32; 256], pen: Pen, job: Job) -> Pen
     requires { ⌜ PenReady pen ⌝ }
     requires { ⌜ Known (now entries) × Short job ⌝ }
-    ensures { λ r. ⌜ ((T : Table) → Coded T (now (entries .entry)) → Told T (now (destination .entry)) (now (destination .exit)) pen r (written.emit (taskOf job))) ⌝ }
+    ensures { λ r. ⌜ ((T : Table) → Coded T (now (entries .entry))
+        → Told T (now (destination .entry)) (now (destination .exit)) pen r (written.emit (taskOf job))) ⌝ }
 {
     match job {
         Job::Leave(n) => tell_code(destination, entries, pen, (16 * n) as u8),
@@ -159,7 +162,9 @@ fn emit(destination: &mut [u8], entries: &[u32; 256], pen: Pen, job: Job) -> Pen
 fn walk(destination: &mut [u8], p: Putter, zeros: usize, from: usize, block: &[i32]) -> Gone
     requires { ⌜ (Sound p) × (p .at < 2 ^ 61) ⌝ }
     requires { ⌜ (from < length (now block)) × (length (now block) ≤ 63) ⌝ }
-    ensures { λ r. ⌜ ((sign : Option Bool) → Carries (now (destination .entry)) (now (destination .exit)) p (r .putter) (now (block .entry)) (some (task.walk zeros sign)) none from (r .at)) × (from < r .at) ⌝ }
+    ensures { λ r. ⌜ ((sign : Option Bool)
+        → Carries (now (destination .entry)) (now (destination .exit)) p (r .putter) (now (block .entry)) (some (task.walk zeros sign)) none from (r .at))
+        × (from < r .at) ⌝ }
 {
     let mut q = p;
     let mut n = zeros;
@@ -200,7 +205,9 @@ fn walk(destination: &mut [u8], p: Putter, zeros: usize, from: usize, block: &[i
 fn rest(destination: &mut [u8], p: Putter, from: usize, block: &[i32]) -> Gone
     requires { ⌜ (Sound p) × (p .at < 2 ^ 61) ⌝ }
     requires { ⌜ (from < length (now block)) × (length (now block) ≤ 63) ⌝ }
-    ensures { λ r. ⌜ ((n : ℕ) → Carries (now (destination .entry)) (now (destination .exit)) p (r .putter) (now (block .entry)) (some (task.ended n)) (some (task.ended n)) from (r .at)) × (from < r .at) ⌝ }
+    ensures { λ r. ⌜ ((n : ℕ)
+        → Carries (now (destination .entry)) (now (destination .exit)) p (r .putter) (now (block .entry)) (some (task.ended n)) (some (task.ended n)) from (r .at))
+        × (from < r .at) ⌝ }
 {
     let mut q = p;
     let mut i = from;
@@ -255,7 +262,9 @@ fn begin(
     requires { ⌜ PenReady (state .pen) ⌝ }
     requires { ⌜ Known (now entries) ⌝ }
     requires { ⌜ (length (now later) ≡ 63 * blocks) × (blocks ≤ 1024) ⌝ }
-    ensures { λ r. ⌜ ((T : Table) → Coded T (now (entries .entry)) → Begins T (now (destination .entry)) (now (destination .exit)) state r (kindsFrom (now (block .entry)) i) (kindBlocks blocks (now (later .entry)))) ⌝ }
+    ensures { λ r. ⌜ ((T : Table) → Coded T (now (entries .entry))
+        → Begins T (now (destination .entry)) (now (destination .exit)) state r
+        (kindsFrom (now (block .entry)) i) (kindBlocks blocks (now (later .entry)))) ⌝ }
 {
     let pen = state.pen;
     let task = state.task;
@@ -281,7 +290,9 @@ fn put_block(
     requires { ⌜ (Sound (state .pen .putter)) × (state .pen .putter .at < 2 ^ 59) ⌝ }
     requires { ⌜ Known (now entries) × (length (now block) ≤ 63) ⌝ }
     requires { ⌜ (length (now later) ≡ 63 * blocks) × (blocks ≤ 1024) ⌝ }
-    ensures { λ r. ⌜ ((T : Table) → Coded T (now (entries .entry)) → Moves T (now (destination .entry)) (now (destination .exit)) state r (written.writeBlock (openOf (state .task)) (kindsFrom (now (block .entry)) 0) (kindBlocks blocks (now (later .entry))))) ⌝ }
+    ensures { λ r. ⌜ ((T : Table) → Coded T (now (entries .entry))
+        → Moves T (now (destination .entry)) (now (destination .exit)) state r
+        (written.writeBlock (openOf (state .task)) (kindsFrom (now (block .entry)) 0) (kindBlocks blocks (now (later .entry))))) ⌝ }
 {
     let mut s = state;
     let mut i = 0;
@@ -314,7 +325,8 @@ fn put_blocks(
 ) -> Pen
     requires { ⌜ goodTable (table (now counts) (now codes)) ≡ true ⌝ }
     requires { ⌜ (length (now values) ≡ 63 * blocks) × (blocks ≤ 1024) ⌝ }
-    ensures { λ r. ⌜ Told (table (now (counts .entry)) (now (codes .entry))) (now (destination .entry)) (now (destination .exit)) newPen r (written.tokens blocks (now (values .entry))) ⌝ }
+    ensures { λ r. ⌜ Told (table (now (counts .entry)) (now (codes .entry)))
+        (now (destination .entry)) (now (destination .exit)) newPen r (written.tokens blocks (now (values .entry))) ⌝ }
 {
     let putter = Putter {
         at: 0,
@@ -358,7 +370,9 @@ fn put_all(
 ) -> Outcome
     requires { ⌜ goodTable (table (now counts) (now codes)) ≡ true ⌝ }
     requires { ⌜ (length (now values) ≡ 63 * blocks) × (blocks ≤ 1024) ⌝ }
-    ensures { λ r. ⌜ Tried 0 (unless 19 (written.lacking (table (now (counts .entry)) (now (codes .entry))) (written.tokens blocks (now (values .entry)))) (fitting (length (now (destination .entry))) (written.acBytes blocks (table (now (counts .entry)) (now (codes .entry))) (now (values .entry))))) (now (destination .entry)) (now (destination .exit)) r ⌝ }
+    ensures { λ r. ⌜ Tried 0 (unless 19 (written.lacking (table (now (counts .entry)) (now (codes .entry))) (written.tokens blocks (now (values .entry))))
+        (fitting (length (now (destination .entry))) (written.acBytes blocks (table (now (counts .entry)) (now (codes .entry))) (now (values .entry)))))
+        (now (destination .entry)) (now (destination .exit)) r ⌝ }
 {
     let pen = put_blocks(destination, counts, codes, values, blocks);
     let lack = pen.lack;
@@ -382,7 +396,9 @@ fn try_write_ac(
     values: &[i32],
     destination: &mut [u8],
 ) -> Outcome
-    ensures { λ r. ⌜ Tried 0 (written.writeAc plane blocks (table (now (counts .entry)) (now (codes .entry))) (now (values .entry)) (length (now (destination .entry)))) (now (destination .entry)) (now (destination .exit)) r ⌝ }
+    ensures { λ r. ⌜ Tried 0
+        (written.writeAc plane blocks (table (now (counts .entry)) (now (codes .entry))) (now (values .entry)) (length (now (destination .entry))))
+        (now (destination .entry)) (now (destination .exit)) r ⌝ }
 {
     if !planes::writable(plane, blocks) {
         return answers::refuse(20, 0);
@@ -408,7 +424,9 @@ pub fn write_ac(
     values: &[i32],
     destination: &mut [u8],
 ) -> Answer
-    ensures { λ r. ⌜ Meets 0 (written.writeAc plane blocks (table (now (counts .entry)) (now (codes .entry))) (now (values .entry)) (length (now (destination .entry)))) (now (destination .entry)) (now (destination .exit)) r ⌝ }
+    ensures { λ r. ⌜ Meets 0
+        (written.writeAc plane blocks (table (now (counts .entry)) (now (codes .entry))) (now (values .entry)) (length (now (destination .entry))))
+        (now (destination .entry)) (now (destination .exit)) r ⌝ }
 {
     let o = try_write_ac(plane, blocks, counts, codes, values, destination);
     if let Outcome::Refused(_) = o {

@@ -17,4 +17,5 @@ pub record Tested (s : Setting) (pixels : ℕ) (base residual : List ℤ) (table
   pub told : (result : List ℕ) → length result ≡ samples s pixels → o ≡ outcomeOf (mergeTests s pixels base residual table room result)
   pub passed : (count : ℕ) → o ≡ Given count → Passed s pixels base residual table
   pub fits : (count : ℕ) → o ≡ Given count → samples s pixels ≤ room
-  pub hands : (count : ℕ) → o ≡ Given count → (result : List ℕ) → length result ≡ samples s pixels → mergeTests s pixels base residual table room result ≡ given result
+  pub hands : (count : ℕ) → o ≡ Given count → (result : List ℕ) → length result ≡ samples s pixels
+      → mergeTests s pixels base residual table room result ≡ given result

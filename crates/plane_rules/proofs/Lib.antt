@@ -9,3 +9,5 @@ pub mod Halves
 pub mod DcBlocks
 pub mod DcTrip
 pub mod Cases
+pub mod ReadingCases
+pub mod WritingCases
