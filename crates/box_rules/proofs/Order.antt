@@ -7,11 +7,11 @@ use mathlib.Core.Bool.{Bool, true, false, cond}
 use native.Mathlib.Omega.{arith}
 use lib.ListN.{length, length-append}
 use lib.Dec.{eqb, leb}
-use borrow.Author.Tests.{eq-eqb, ne-eqb, eqb-true, eqb-false, le-leb, leb-true}
-use Rattle.laws.specs.declared.Found.{Found}
-use Rattle.laws.specs.declared.Found.the-variants.{At, Nothing}
+use borrow.Author.Tests.{eq-eqb, ne-eqb, eqb-true, eqb-false, leb-true}
+use Rattle.laws.specs.declared.Found.the-variants.{Nothing}
 use Rattle.laws.proofs.Choices.{either, cond-left, cond-right, cond-swap}
-use Rattle.answers.specs.Verdict.{Verdict, given, refused, need, unless, fitting}
+use Rattle.answers.specs.Verdict.{given, refused}
+use Rattle.answers.proofs.Given.{need-given, unless-given, fits}
 use Rattle.answers.specs.declared.Refusal.{Refusal}
 use Rattle.answers.specs.declared.Outcome.{Outcome}
 use Rattle.answers.specs.declared.Outcome.the-variants.{Given, Refused}
@@ -282,12 +282,7 @@ sorted-makes ps t m = sorts-all ps (each-once ps t m)
 pub fine-total : (ps : List Packet) → firstTwice (numbers ps) ≡ Nothing → firstMissing (numbers ps) ≡ Nothing → length (joined ps) ≡ total ps
 fine-total ps t m = let s = sorted-makes ps t m in reads-total ps (sorted (length ps) 1 ps) (s .0) (s .1)
 
--- ---- packets in file order
-
 -- ---- the law, for a list of packets
-
-fits : (room : ℕ) (b : List ℕ) → length b ≤ room → fitting room b ≡ given b
-fits room b h = rw (le-leb (length b) room h)
 
 alike-contents : (h g : Head) → alike h g ≡ true → contents g ≡ contents h
 unfolding alike contents
@@ -349,22 +344,14 @@ record Passed (room : ℕ) (h : Head) (ps : List Packet) (b : List ℕ) : Type 0
 refused-given : {A : Type 0} {r : Refusal} {b : List A} → refused r ≡ given b → ⊥
 refused-given e = let z : _≡_ {A = ℕ} 0 1 = cc in omega arith
 
-unless-given : (n : ℕ) (x : Found) (v : Verdict ℕ) {b : List ℕ} → unless n x v ≡ given b → (x ≡ Nothing) × (v ≡ given b)
-unless-given n Nothing v e = (refl, e)
-unless-given n (At q) v e = absurd (refused-given e)
-
-need-given : (ok : Bool) (n p : ℕ) (v : Verdict ℕ) {b : List ℕ} → need ok n p v ≡ given b → (ok ≡ true) × (v ≡ given b)
-need-given true n p v e = (refl, e)
-need-given false n p v e = absurd (refused-given e)
-
 passed : (room : ℕ) (h : Head) (ps : List Packet) (b : List ℕ) → assembled room h ps ≡ given b → Passed room h ps b
 unfolding assembled
 passed room h ps b e =
-    let a = need-given (agree h ps) 5 0 _ e in
-    let t = unless-given 6 (firstTwice (numbers ps)) _ (a .1) in
-    let m = unless-given 7 (firstMissing (numbers ps)) _ (t .1) in
-    let s = need-given (eqb (total ps) (contents h)) 8 (total ps) _ (m .1) in
-    let f = need-given (leb (length (joined ps)) room) 9 (length (joined ps)) _ (s .1) in
+    let a = need-given (agree h ps) 5 0 _ b e in
+    let t = unless-given 6 (firstTwice (numbers ps)) _ b (a .1) in
+    let m = unless-given 7 (firstMissing (numbers ps)) _ b (t .1) in
+    let s = need-given (eqb (total ps) (contents h)) 8 (total ps) _ b (m .1) in
+    let f = need-given (leb (length (joined ps)) room) 9 (length (joined ps)) _ b (s .1) in
     let o : b ≡ joined ps = cc in
     record { same = a .0; single = t .0; whole = m .0; sum = eqb-true _ _ (s .0); out = o; within = subst (λ (x : List ℕ). length x ≤ room) (sym o) (leb-true _ _ (f .0)) }
 
