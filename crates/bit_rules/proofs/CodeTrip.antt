@@ -128,5 +128,3 @@ prefix-free T v w k j rest g p q e =
     let one : takeCode T s ≡ got v (parts .0) = code-trip T v k s (parts .0) g p (parts .1) in
     let two : takeCode T s ≡ got w u = code-trip T w j s u g q all in
     cc
-
--- ---- the code's loop over the lengths: what is left assigns what the whole assigns

@@ -1,10 +1,10 @@
 pub mod Digits
 pub mod Source
-pub mod Pack
-pub mod Gives
-pub mod Read
-pub mod Table
-pub mod Words
-pub mod Write
 pub mod Reader
 pub mod Number
+pub mod Pack
+pub mod Gives
+pub mod Table
+pub mod Read
+pub mod Write
+pub mod Words

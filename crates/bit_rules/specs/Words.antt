@@ -24,5 +24,7 @@ NoWord T bits = (v : ℕ) (rest : List Bool) → Has T v → bits ≡ word T v +
 pub record ReadByWords (T : Table) : Type 0 where
   pub read : (v : ℕ) (s t : Source) → takeCode T s ≡ got v t → Has T v × Gives s (word T v) t
   pub reads : (v : ℕ) (s t : Source) → Has T v × Gives s (word T v) t → takeCode T s ≡ got v t
-  pub missed : (s : Source) (x : Stop) → takeCode T s ≡ stopped x → x .number ≡ 14 → (bits : List Bool) × (t : Source) × (length bits ≡ 16) × Gives s bits t × NoWord T bits
-  pub misses : (s t : Source) (bits : List Bool) → length bits ≡ 16 → Gives s bits t → NoWord T bits → (x : Stop) × (takeCode T s ≡ stopped x) × (x .number ≡ 14)
+  pub missed : (s : Source) (x : Stop) → takeCode T s ≡ stopped x → x .number ≡ 14
+      → (bits : List Bool) × (t : Source) × (length bits ≡ 16) × Gives s bits t × NoWord T bits
+  pub misses : (s t : Source) (bits : List Bool) → length bits ≡ 16 → Gives s bits t → NoWord T bits
+      → (x : Stop) × (takeCode T s ≡ stopped x) × (x .number ≡ 14)

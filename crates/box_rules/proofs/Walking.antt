@@ -153,8 +153,6 @@ module _ (file : List ℕ) (at : ℕ) where
   unfolding packetsIn
   packets-meet e = ap (packetsIn file) (unroll file at) ∙ rw e
 
--- ---- the packets of a type and instance
-
 -- ---- the whole file
 
 module _ (file : List ℕ) (from : ℕ) where

@@ -55,7 +55,7 @@ pub record Boxed (p : Packet) : Type 0 where
 -- W10: a segment whose marker carries a length (02 to CF, DB to FE) and that is no packet
 pub record Plain (marker : ℕ) (contents : List ℕ) : Type 0 where
   pub low : 2 ≤ marker
-  pub high : marker < 255
+  pub high : marker < 0xFF
   pub carries : (marker < 0xD0) ⊎ (0xDA < marker)
   pub untagged : marker ≡ 0xEB → (r : List ℕ) → contents ≡ 0x4A ∷ 0x50 ∷ r → ⊥
 

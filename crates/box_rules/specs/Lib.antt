@@ -1,7 +1,7 @@
-pub mod Box
-pub mod Numbers
-pub mod Layout
-pub mod Text
 pub mod Walk
-pub mod Order
 pub mod Packets
+pub mod Layout
+pub mod Numbers
+pub mod Box
+pub mod Order
+pub mod Text

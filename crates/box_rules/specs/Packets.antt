@@ -44,5 +44,3 @@ mine kind instance (p ∷ r) = cond (isMine kind instance (p .head)) (p ∷ mine
 -- P4: those that a walk from here on meets
 unfoldable pub mineFrom : List ℕ → ℕ → ℕ → ℕ → List Packet
 mineFrom file kind instance at = mine kind instance (packetsIn file (stepsFrom file at))
-
--- ---- a quick look at the usual case: a whole packet with no fill stands at a position. One way only: where it finds none, nothing is said.

@@ -20,8 +20,6 @@ use Rattle.codes.specs.declared.Code.{Code}
 use Rattle.bit_rules.proofs.Tables.{good}
 use Rattle.bit_rules.proofs.Places.{other, first-there}
 
--- ---- distinct values stand at one place each
-
 -- ---- the loop: the entries of the places so far
 
 first-same : (test : ℕ → Bool) (i : ℕ) → test i ≡ true → firstFail (i + 1) test ≡ firstFail i test

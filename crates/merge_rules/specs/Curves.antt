@@ -23,5 +23,3 @@ unfoldable pub entries : Curve → ℕ → ℕ
 entries Straight rh = 0
 entries Table rh = 2 ^ (8 + rh)
 entries Srgb rh = 0
-
--- ---- what the curve in code asks, and what its table is made of

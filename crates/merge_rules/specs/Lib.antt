@@ -1,8 +1,8 @@
-pub mod Pixels
-pub mod Picture
-pub mod Settings
 pub mod Near
-pub mod Curves
-pub mod Call
 pub mod Srgb
+pub mod Curves
+pub mod Pixels
 pub mod Steps
+pub mod Settings
+pub mod Picture
+pub mod Call

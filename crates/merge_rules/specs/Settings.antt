@@ -79,5 +79,3 @@ lengthsRight s pixels base residual table =
 -- M7: entry i of the lent table is at most this
 unfoldable pub entryRight : ℕ → List ℕ → ℕ → Bool
 entryRight most table i = leb (getD table i 0) most
-
--- ---- what the loops in code ask

@@ -122,5 +122,3 @@ byCurve k s =
       residual = s .residual;
       «residual_transform» = s .«residual_transform»;
     }
-
--- ---- what the steps in code ask of a setting: the ranges, and a curve whose table is there

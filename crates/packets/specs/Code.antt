@@ -22,6 +22,7 @@ abbrev pub NextIs : List ℕ → ℕ → ℕ → ℕ → Next → Type 0
 NextIs file kind instance at Gone = mineFrom file kind instance at ≡ []
 NextIs file kind instance at (Mine head start len next) = Met file kind instance at head start len next
 
+-- a quick look at the usual case: a whole packet with no fill stands at a position. One way only: where it finds none, nothing is said
 pub record Tagged (file : List ℕ) (at : ℕ) : Type 0 where
   pub first : getD file at 0 ≡ 255
   pub marker : getD file (at + 1) 0 ≡ 235

@@ -1,6 +1,6 @@
 pub mod Task
 pub mod Plane
-pub mod Levels
-pub mod AcWrite
-pub mod AcRead
 pub mod Dc
+pub mod AcRead
+pub mod AcWrite
+pub mod Levels

@@ -1,5 +1,5 @@
+pub mod Cosines
 pub mod Samples
 pub mod Zigzag
-pub mod Cosines
 pub mod Picture
 pub mod Call
