@@ -10,9 +10,8 @@ use lib.Dec.{eqb, leb}
 use borrow.Author.Tests.{eq-eqb, ne-eqb, eqb-true, eqb-false, leb-true}
 use Rattle.laws.specs.declared.Found.the-variants.{Nothing}
 use Rattle.laws.proofs.Choices.{either, cond-left, cond-right, cond-swap}
-use Rattle.answers.specs.Verdict.{given, refused}
-use Rattle.answers.proofs.Given.{need-given, unless-given, fits}
-use Rattle.answers.specs.declared.Refusal.{Refusal}
+use Rattle.answers.specs.Verdict.{given}
+use Rattle.answers.proofs.Given.{refused-given, need-given, unless-given, fits}
 use Rattle.answers.specs.declared.Outcome.{Outcome}
 use Rattle.answers.specs.declared.Outcome.the-variants.{Given, Refused}
 use Rattle.box_rules.specs.declared.Head.{Head}
@@ -340,9 +339,6 @@ record Passed (room : ℕ) (h : Head) (ps : List Packet) (b : List ℕ) : Type 0
   sum : total ps ≡ contents h
   out : b ≡ joined ps
   within : length b ≤ room
-
-refused-given : {A : Type 0} {r : Refusal} {b : List A} → refused r ≡ given b → ⊥
-refused-given e = let z : _≡_ {A = ℕ} 0 1 = cc in omega arith
 
 passed : (room : ℕ) (h : Head) (ps : List Packet) (b : List ℕ) → assembled room h ps ≡ given b → Passed room h ps b
 unfolding assembled

@@ -3,12 +3,12 @@ use mathlib.Core.Path.{_≡_, refl, sym, ap, subst, _∙_}
 use mathlib.Core.Logic.{_⊎_, inl, inr, ⊎-elim}
 use mathlib.Core.Bool.{Bool, true, false}
 use mathlib.Core.List.{List, _++_}
-use Prim.Native.Nat.{ℕ, _≤_, _<_}
+use Prim.Native.Nat.{ℕ, _≤_}
 use native.Mathlib.Omega.{arith}
 use lib.Dec.{leb}
 use lib.ListN.{length, drop, length-append, length-drop}
 use lib.Seq.{drop-append-seam}
-use borrow.Author.Tests.{leb-true, leb-false, lt-leb}
+use borrow.Author.Tests.{leb-true, leb-false}
 use Rattle.laws.specs.First.{firstFail}
 use Rattle.laws.specs.declared.Found.{Found}
 use Rattle.laws.specs.declared.Found.the-variants.{At, Nothing}
@@ -17,6 +17,7 @@ use Rattle.laws.proofs.Choices.{true-false, at-one, at-nothing}
 use Rattle.answers.specs.Verdict.{Verdict, given, refused, refusal, need, unless, fitting, Meets}
 use Rattle.answers.specs.declared.Refusal.{Refusal}
 use Rattle.answers.specs.declared.Answer.{Answer}
+use Rattle.answers.proofs.Given.{refused-given}
 use Rattle.demands.specs.One.{Rows, row, _then_, failing, needed, First, Succeeded, Turned, Answered}
 
 -- a verdict hands out what there is room for, or refuses by a row
@@ -100,9 +101,6 @@ success before ys h = record {
   past = drop-append-seam ys (drop (length ys) before);
 }
 
-given-refused : {A : Type 0} {ys : List A} {r : Refusal} → given ys ≡ refused r → ⊥
-given-refused e = let z : _≡_ {A = ℕ} 0 1 = cc in omega arith
-
 module _ {A : Type 0} (zero : A) {table : Rows} (none : NoZero table) (before : List A) where
   pub answered : (v : Verdict A) → Judged table (length before) v → (after : List A) (answer : Answer) → Meets zero v before after answer → Answered zero table before after answer
   answered v j after answer m = record { outcome = go v (j .kept) m; only = λ n p t. one v (j .only n p t) m }
@@ -113,5 +111,5 @@ module _ {A : Type 0} (zero : A) {table : Rows} (none : NoZero table) (before : 
           inr (record { line = rw (m .answered) t; told = λ e. none .never (r .place) (subst (λ (n : ℕ). table n (r .place)) (sym (ap (λ (a : Answer). a .number) (m .answered)) ∙ e) t); zeros = m .held })
 
       one : (v : Verdict A) {n p : ℕ} → v ≡ refused (refusal n p) → Meets zero v before after answer → (answer .number ≡ n) × (answer .place ≡ p)
-      one (given ys) e m = absurd (given-refused e)
+      one (given ys) e m = absurd (refused-given (sym e))
       one (refused r) {n} {p} e m = let same : r ≡ refusal n p = cc in rw (m .answered, same) (refl, refl)

@@ -4,7 +4,6 @@ use mathlib.Core.Bool.{Bool, true}
 use mathlib.Core.List.{List, [], _∷_}
 use mathlib.Core.Option.{none}
 use Prim.Native.Nat.{ℕ, _-_, _*_, _≤_}
-use native.Mathlib.Omega.{arith}
 use borrow.Author.Tests.{eqb-true, eq-eqb, leb-true, le-leb}
 use lib.Dec.{leb, eqb}
 use lib.IntN.{ℤ, pos}
@@ -16,7 +15,7 @@ use Rattle.laws.specs.First.{firstFail}
 use Rattle.answers.specs.Verdict.{Verdict, given, refused, fitting, Meets}
 use Rattle.answers.specs.declared.Refusal.{Refusal}
 use Rattle.answers.specs.declared.Answer.{Answer}
-use Rattle.answers.proofs.Given.{need-given, unless-given}
+use Rattle.answers.proofs.Given.{refused-given, need-given, unless-given}
 use Rattle.levels.specs.Level.{firstOutside}
 use Rattle.levels.specs.declared.Part.the-variants.{Dc, Ac, Whole}
 use Rattle.bit_rules.specs.Source.{Source, start, onlyPadding}
@@ -40,9 +39,6 @@ use Rattle.demands.proofs.Walked.{box-judged}
 use Rattle.demands.proofs.One.{list-judged, list-zero, dc-read-judged, ac-read-judged, dc-write-judged, ac-write-judged, transform-judged, merge-judged, call-judged, call-is, lentMerge, lent-merge, call-zero, box-zero, dc-read-zero, ac-read-zero, dc-write-zero, ac-write-zero, transform-zero, merge-zero}
 
 -- ---- from a verdict to what was written
-
-refused-given : {A : Type 0} {r : Refusal} {ys : List A} → refused r ≡ given ys → ⊥
-refused-given e = let z : _≡_ {A = ℕ} 0 1 = cc in omega arith
 
 by-row : {A : Type 0} {table : Rows} {room : ℕ} (r : Refusal) → Keeps {A = A} table room (refused r) → table (r .number) (r .place)
 by-row r (refuses t) = t

@@ -13,6 +13,7 @@ use Rattle.answers.specs.Verdict.{refusal}
 use Rattle.answers.specs.declared.Refusal.{Refusal}
 use Rattle.answers.specs.declared.Outcome.{Outcome}
 use Rattle.answers.specs.declared.Outcome.the-variants.{Given, Refused}
+use Rattle.answers.proofs.Laws.{never-given}
 use Rattle.box_rules.specs.Walk.{be16, headAt, ones, barred, tagged, packetAt, wholeAt, sizedAt, markedAt, stepAt, stepsFrom, begins, walk, ending}
 use Rattle.box_rules.specs.declared.Step.{Step}
 use Rattle.box_rules.specs.declared.Step.the-variants.{End, Skip, Meet, Broken}
@@ -66,9 +67,6 @@ module _ (file : List ℕ) (at : ℕ) where
 refused-one : {r : Refusal} {n p : ℕ} → Refused r ≡ Refused (refusal n p) → (n ≡ r .number) × (p ≡ r .place)
 refused-one {r} {n} {p} e = let same : r ≡ refusal n p = cc in rw same (refl, refl)
 
-refused-given : {n : ℕ} {r : Refusal} → Given n ≡ Refused r → ⊥
-refused-given e = let z : _≡_ {A = ℕ} 0 1 = cc in omega arith
-
 module _ (file : List ℕ) where
   abbrev walkRows : Rows
   walkRows = rows (2 ∷ 3 ∷ []) (brokenAt file)
@@ -81,7 +79,7 @@ module _ (file : List ℕ) where
   step-rows : (at : ℕ) → Reached file at → (r : Refusal) → ending (stepsFrom file at) ≡ Refused r
       → ((next : ℕ) → at < next → next ≤ length file → Reached file next → ending (stepsFrom file next) ≡ Refused r → walkRows (r .number) (r .place))
       → (s : Step) → stepAt file at ≡ s → walkRows (r .number) (r .place)
-  step-rows at reached r e onward End q = absurd (refused-given (sym (ending-end file at q) ∙ e))
+  step-rows at reached r e onward End q = absurd (never-given (sym e ∙ ending-end file at q))
   step-rows at reached r e onward (Broken f) q =
       let w : Refused f ≡ Refused r = sym (ending-broken file at q) ∙ e in
       let same : f ≡ r = cc in
@@ -133,7 +131,7 @@ box-judged file kind instance room = start (begins file) refl
   where
     walked : begins file ≡ true → (o : Outcome) → ending (stepsFrom file 2) ≡ o
         → Judged (rows (2 ∷ 3 ∷ []) (brokenAt file) then packetRows (mine kind instance (packets file)) room) room (afterWalk o (assemble room (mine kind instance (packets file))))
-    walked b (Given n) e = passed (λ m q h. refused-given (sym e ∙ rows-walk file m q h)) (packets-judged (mine kind instance (packets file)) room)
+    walked b (Given n) e = passed (λ m q h. never-given (sym (rows-walk file m q h) ∙ e)) (packets-judged (mine kind instance (packets file)) room)
     walked b (Refused r) e = told r (walk-rows file (length file) 2 (omega arith) first r e) (λ m q h. refused-one (sym e ∙ rows-walk file m q h))
 
     start : (b : Bool) → begins file ≡ b → Judged (row 1 (failing (begins file)) then rows (2 ∷ 3 ∷ []) (brokenAt file) then packetRows (mine kind instance (packets file)) room) room (afterWalk (ending (walk file)) (assemble room (mine kind instance (packets file))))
