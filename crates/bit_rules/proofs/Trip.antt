@@ -127,6 +127,10 @@ unfolding packed
 full-says b bits c q e more =
     rw (e, ← (append-snoc (digits 7 c) b bits), ← (digits-snoc 7 c b)) (byte-says (2 * c + bin b) (packed 0 7 bits) bits (rw (digits-none 0) at more))
 
+more-says : (b : Bool) (bits : List Bool) (c m q : ℕ) → Says (packed (2 * c + bin b) m bits) (digits (suc q) (2 * c + bin b) ++ bits) → Says (packed c (suc m) (b ∷ bits)) (digits q c ++ (b ∷ bits))
+unfolding packed
+more-says b bits c m q more = rw (← (append-snoc (digits q c) b bits), ← (digits-snoc q c b)) more
+
 packed-says : (bits : List Bool) (c m q : ℕ) → q + m ≡ 7 → Says (packed c m bits) (digits q c ++ bits)
 unfolding packed
 packed-says [] c m zero e = let z : m ≡ 7 = omega arith in rw (z, digits-none c) none-says
@@ -134,8 +138,7 @@ packed-says [] c m (suc q) e =
     let z : eqb m 7 ≡ false = ne-eqb m 7 (omega arith) in
     rw (z, append-nil (digits (suc q) c)) (last-says c m q e)
 packed-says (b ∷ bits) c zero q e = full-says b bits c q (omega arith) (packed-says bits 0 7 0 refl)
-packed-says (b ∷ bits) c (suc m) q e =
-    rw (← (append-snoc (digits q c) b bits), ← (digits-snoc q c b)) (packed-says bits (2 * c + bin b) m (suc q) (omega arith))
+packed-says (b ∷ bits) c (suc m) q e = more-says b bits c m q (packed-says bits (2 * c + bin b) m (suc q) (omega arith))
 
 pub bytes-say : (bits : List Bool) → Says (bytesOf bits) bits
 bytes-say bits = rw (digits-none 0) at (packed-says bits 0 7 0 refl)

@@ -32,16 +32,16 @@ pub empty-file : listing [] ≡ first ++ (97 ∷ 110 ∷ 115 ∷ 119 ∷ 101 ∷
 unfolding begins walk ending packetsIn packets line lines header answer listing decIn dec
 empty-file = refl
 
--- a packet with instance FFFF, a number of two bytes, 2 bytes of payload, LBox 0000FF00 and type ABCDEF01
+-- a packet with instance 0201, a number of two bytes, 2 bytes of payload, LBox 0000FF00 and type ABCDEF01
 abbrev packet : ℕ → ℕ → List ℕ → List ℕ
 packet high low r =
-    0xFF ∷ 0xEB ∷ 0 ∷ 20 ∷ 0x4A ∷ 0x50 ∷ 0xFF ∷ 0xFF ∷ 0 ∷ 0 ∷ high ∷ low ∷ 0 ∷ 0 ∷ 0xFF ∷ 0x00 ∷ 0xAB ∷ 0xCD ∷ 0xEF ∷ 0x01 ∷ 7 ∷ 7 ∷ r
+    0xFF ∷ 0xEB ∷ 0 ∷ 20 ∷ 0x4A ∷ 0x50 ∷ 0x02 ∷ 0x01 ∷ 0 ∷ 0 ∷ high ∷ low ∷ 0 ∷ 0 ∷ 0xFF ∷ 0x00 ∷ 0xAB ∷ 0xCD ∷ 0xEF ∷ 0x01 ∷ 7 ∷ 7 ∷ r
 
--- "Lines stand in file order", "`bytes` the packet's own payload", whatever its LBox: `65535 300 2 ABCDEF01` and `65535 10 2 ABCDEF01`
+-- "Lines stand in file order", "`bytes` the packet's own payload", whatever its LBox: `513 300 2 ABCDEF01` and `513 10 2 ABCDEF01`
 pub listed : listing (0xFF ∷ 0xD8 ∷ packet 1 44 (packet 0 10 (0xFF ∷ 0xDA ∷ [])))
     ≡ first
-    ++ (54 ∷ 53 ∷ 53 ∷ 51 ∷ 53 ∷ 32 ∷ 51 ∷ 48 ∷ 48 ∷ 32 ∷ 50 ∷ 32 ∷ 65 ∷ 66 ∷ 67 ∷ 68 ∷ 69 ∷ 70 ∷ 48 ∷ 49 ∷ 10 ∷ [])
-    ++ (54 ∷ 53 ∷ 53 ∷ 51 ∷ 53 ∷ 32 ∷ 49 ∷ 48 ∷ 32 ∷ 50 ∷ 32 ∷ 65 ∷ 66 ∷ 67 ∷ 68 ∷ 69 ∷ 70 ∷ 48 ∷ 49 ∷ 10 ∷ [])
+    ++ (53 ∷ 49 ∷ 51 ∷ 32 ∷ 51 ∷ 48 ∷ 48 ∷ 32 ∷ 50 ∷ 32 ∷ 65 ∷ 66 ∷ 67 ∷ 68 ∷ 69 ∷ 70 ∷ 48 ∷ 49 ∷ 10 ∷ [])
+    ++ (53 ∷ 49 ∷ 51 ∷ 32 ∷ 49 ∷ 48 ∷ 32 ∷ 50 ∷ 32 ∷ 65 ∷ 66 ∷ 67 ∷ 68 ∷ 69 ∷ 70 ∷ 48 ∷ 49 ∷ 10 ∷ [])
     ++ well
 unfolding be16 be32 headAt ones barred tagged packetAt wholeAt sizedAt markedAt stepAt stepsIn stepsFrom begins walk ending packetsIn packets line lines header answer listing decIn dec glyph hex
 listed = refl
@@ -58,7 +58,7 @@ refused-walks = (refl, refl, refl)
 pub numerals : (dec 0 ≡ 48 ∷ [])
     × (dec 9 ≡ 57 ∷ [])
     × (dec 10 ≡ 49 ∷ 48 ∷ [])
-    × (dec 65536 ≡ 54 ∷ 53 ∷ 53 ∷ 51 ∷ 54 ∷ [])
+    × (dec 1024 ≡ 49 ∷ 48 ∷ 50 ∷ 52 ∷ [])
     × (hex 8 0x0123456 ≡ 48 ∷ 48 ∷ 49 ∷ 50 ∷ 51 ∷ 52 ∷ 53 ∷ 54 ∷ [])
     × (hex 8 0x789ABCDE ≡ 55 ∷ 56 ∷ 57 ∷ 65 ∷ 66 ∷ 67 ∷ 68 ∷ 69 ∷ [])
     × (hex 8 0xF0000009 ≡ 70 ∷ 48 ∷ 48 ∷ 48 ∷ 48 ∷ 48 ∷ 48 ∷ 57 ∷ [])
@@ -83,13 +83,12 @@ largest =
       dec-small 4 (omega arith),
     )
 
-others : (dec 65535 ≡ 54 ∷ 53 ∷ 53 ∷ 51 ∷ 53 ∷ []) × (dec 2 ≡ 50 ∷ [])
-unfolding decIn dec
-others = (refl, refl)
+instance-largest : dec 65535 ≡ 54 ∷ 53 ∷ 53 ∷ 51 ∷ 53 ∷ []
+instance-largest = rw (dec-more 65535 (omega arith), dec-more 6553 (omega arith), dec-more 655 (omega arith), dec-more 65 (omega arith), dec-small 6 (omega arith))
 
 pub largest-line : line 65535 4294967295 2 0xABCDEF01 ≡ 54 ∷ 53 ∷ 53 ∷ 51 ∷ 53 ∷ 32 ∷ 52 ∷ 50 ∷ 57 ∷ 52 ∷ 57 ∷ 54 ∷ 55 ∷ 50 ∷ 57 ∷ 53 ∷ 32 ∷ 50 ∷ 32 ∷ 65 ∷ 66 ∷ 67 ∷ 68 ∷ 69 ∷ 70 ∷ 48 ∷ 49 ∷ 10 ∷ []
 unfolding line glyph hex
-largest-line = rw (others .0, largest, others .1)
+largest-line = rw (instance-largest, largest, dec-small 2 (omega arith))
 
 -- "a file of at most 64 KiB": 65,536 bytes is still taken, one more gives "answer 20 0" whatever they are
 pub taken : (file : List ℕ) → length file ≡ 65536 → listing file ≡ header ++ textAfter (ending (walk file)) (lines (packets file))

@@ -16,13 +16,19 @@ use Rattle.transform_rules.specs.Zigzag.{firstRow, lastRow, placesBefore
 use Rattle.transform_rules.specs.Picture.{timesQuantiser, dequantised, centre, picture}
 use Rattle.transform_rules.specs.Call.{isQuantiser, firstBadQuantiser, inverseTransform}
 
--- "Only S at DC, R 0: 16 gives 130 everywhere, 3 gives 128, 4 gives 129, -4 gives 127": one block, each quantiser 1
-pub case-e : map (λ s. inverseTransform 0 1 (s ∷ replicate 63 (pos 0)) (replicate 64 1) 64) (pos 16 ∷ pos 3 ∷ pos 4 ∷ negsuc 3 ∷ [])
-    ≡ map (λ sample. given (replicate 64 sample)) (pos 130 ∷ pos 128 ∷ pos 129 ∷ pos 127 ∷ [])
+-- "Only S at DC, R 0: 16 gives 130 everywhere": one block, each quantiser 1
+pub case-e : inverseTransform 0 1 (pos 16 ∷ replicate 63 (pos 0)) (replicate 64 1) 64 ≡ given (replicate 64 (pos 130))
 unfolding sumTo tab joinTo every firstFail orHere inLevel isDc inside firstOutside nineCosines halfTurn fullTurn kernel
     product rowSum doubleSum rounded sample blockSamples firstRow lastRow placesBefore zigzag zigzagAt timesQuantiser dequantised centre picture
     isQuantiser firstBadQuantiser inverseTransform
 case-e = refl
+
+-- "3 gives 128, 4 gives 129, -4 gives 127": the first and the last sample (the demands compute all of them)
+pub case-e-corners : map (λ s. map (λ place. getD (picture 0 1 (s ∷ []) (replicate 64 1)) place (pos 0)) (0 ∷ 63 ∷ [])) (pos 3 ∷ pos 4 ∷ negsuc 3 ∷ [])
+    ≡ (pos 128 ∷ pos 128 ∷ []) ∷ (pos 129 ∷ pos 129 ∷ []) ∷ (pos 127 ∷ pos 127 ∷ []) ∷ []
+unfolding sumTo tab joinTo nineCosines halfTurn fullTurn kernel product rowSum doubleSum rounded sample blockSamples
+    firstRow lastRow placesBefore zigzag zigzagAt timesQuantiser dequantised centre picture
+case-e-corners = refl
 
 -- ---- the definitions at their edges
 
@@ -79,8 +85,9 @@ unfolding sumTo tab joinTo nineCosines halfTurn fullTurn kernel product rowSum d
     firstRow lastRow placesBefore zigzag zigzagAt timesQuantiser dequantised centre picture
 columns-and-rows = refl
 
--- one block after the other: e's 16 and then its -4
-pub blocks-in-order : picture 0 2 (pos 16 ∷ replicate 63 (pos 0) ++ (negsuc 3 ∷ [])) (replicate 64 1) ≡ replicate 64 (pos 130) ++ replicate 64 (pos 127)
+-- one block after the other: e's 16 and then its -4, the first and the last sample of each
+pub blocks-in-order : map (λ place. getD (picture 0 2 (pos 16 ∷ replicate 63 (pos 0) ++ (negsuc 3 ∷ [])) (replicate 64 1)) place (pos 0)) (0 ∷ 63 ∷ 64 ∷ 127 ∷ 128 ∷ [])
+    ≡ pos 130 ∷ pos 130 ∷ pos 127 ∷ pos 127 ∷ pos 0 ∷ []
 unfolding sumTo tab joinTo nineCosines halfTurn fullTurn kernel product rowSum doubleSum rounded sample blockSamples
     firstRow lastRow placesBefore zigzag zigzagAt timesQuantiser dequantised centre picture
 blocks-in-order = refl
@@ -117,9 +124,7 @@ pub level-edges : map (λ values. inverseTransform 1 1 values (replicate 64 1) 0
 unfolding second tab joinTo every firstFail orHere inLevel isDc inside firstOutside blockSamples picture isQuantiser firstBadQuantiser inverseTransform
 level-edges = refl
 
--- 63 places are too few for a block, 64 are enough
-pub room-edges : map (λ room. inverseTransform 0 1 (pos 16 ∷ replicate 63 (pos 0)) (replicate 64 1) room) (63 ∷ 64 ∷ []) ≡ refused (refusal 9 64) ∷ given (replicate 64 (pos 130)) ∷ []
-unfolding sumTo tab joinTo every firstFail orHere inLevel isDc inside firstOutside nineCosines halfTurn fullTurn kernel
-    product rowSum doubleSum rounded sample blockSamples firstRow lastRow placesBefore zigzag zigzagAt timesQuantiser dequantised centre picture
-    isQuantiser firstBadQuantiser inverseTransform
-room-edges = refl
+-- 63 places are too few for a block; `case-e` has just enough
+pub room-edge : inverseTransform 0 1 (pos 16 ∷ replicate 63 (pos 0)) (replicate 64 1) 63 ≡ refused (refusal 9 64)
+unfolding tab joinTo every firstFail orHere inLevel isDc inside firstOutside blockSamples picture isQuantiser firstBadQuantiser inverseTransform
+room-edge = refl
