@@ -1,7 +1,7 @@
--- `ac_reader::do_job` meets its contract. Assumes nothing.
+-- `ac_steps::do_job` meets its contract. Assumes nothing.
 use borrow.Author.Needs.{needs}
-use Rattle.ac_reader.proofs.do_job.Statement.{statement}
-use Rattle.ac_reader.proofs.do_job.Tie as tie
+use Rattle.ac_steps.proofs.do_job.Statement.{statement}
+use Rattle.ac_steps.proofs.do_job.Tie as tie
 
 returns : tie.Need-returns
 returns c = rw (c .before .before .before .before .job .given .1) (c .before .walk .ensures)

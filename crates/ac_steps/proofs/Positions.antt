@@ -18,7 +18,7 @@ use Rattle.bit_rules.specs.Table.{Table}
 use Rattle.plane_rules.specs.Task.{Task, walk, atZero, pass}
 use Rattle.plane_rules.specs.AcRead.{taskAt, position, corrected, blockEnd, acBlock}
 use Rattle.ac_tasks.specs.Code.{openOf, blockOf}
-use Rattle.ac_reader.specs.Code.{fixing, aim, aimed, inFront, At, Carries, Closes}
+use Rattle.ac_steps.specs.Code.{fixing, aim, aimed, inFront, At, Carries, Closes}
 use Rattle.ac_tasks.specs.declared.Block.{Block}
 use Rattle.ac_tasks.specs.declared.Block.the-variants.{Done, Stopped}
 

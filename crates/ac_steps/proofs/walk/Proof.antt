@@ -1,4 +1,4 @@
--- `ac_reader::walk` meets its contract: what the block came to from `from` on carries to position i. Assumes nothing.
+-- `ac_steps::walk` meets its contract: what the block came to from `from` on carries to position i. Assumes nothing.
 use mathlib.Core.Path.{_≡_, sym, ap, _∙_}
 use mathlib.Core.Option.{some}
 use Prim.Native.Nat.{_-_, _≤_}
@@ -8,12 +8,12 @@ use mir.Syntax.{w32}
 use mir.Val.{toZ, ofZ}
 use Rattle.laws.proofs.Integers.{back}
 use Rattle.plane_rules.specs.Task as task
-use Rattle.ac_reader.specs.Code.{aim, fixedOf, Carries}
-use Rattle.ac_reader.proofs.Positions.{carries-none, carries-landed, carries-passed, carries-stopped, carries-fixed, carries-past}
+use Rattle.ac_steps.specs.Code.{aim, fixedOf, Carries}
+use Rattle.ac_steps.proofs.Positions.{carries-none, carries-landed, carries-passed, carries-stopped, carries-fixed, carries-past}
 use native.Mathlib.Omega.{arith}
 use borrow.Author.Needs.{needs}
-use Rattle.ac_reader.proofs.walk.Statement.{statement}
-use Rattle.ac_reader.proofs.walk.Tie as tie
+use Rattle.ac_steps.proofs.walk.Statement.{statement}
+use Rattle.ac_steps.proofs.walk.Tie as tie
 
 abbrev Inv-loop : tie.InvT-loop
 Inv-loop «data» zeros leave sign from values destination₀ cursor₀ n₀ i₀ destination cursor n i =

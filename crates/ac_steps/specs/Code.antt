@@ -15,10 +15,10 @@ use Rattle.plane_rules.specs.Task.{Task, unit}
 use Rattle.plane_rules.specs.AcRead.{corrected, acBlock}
 use Rattle.ac_tasks.specs.Code.{blockOf}
 use Rattle.ac_tasks.specs.declared.Block.{Block}
-use Rattle.ac_reader.specs.declared.Fixed.{Fixed}
-use Rattle.ac_reader.specs.declared.Fixed.the-variants.{Now, Stopped}
-use Rattle.ac_reader.specs.declared.Step.{Step}
-use Rattle.ac_reader.specs.declared.Step.the-variants.{On, Out as Over}
+use Rattle.ac_steps.specs.declared.Fixed.{Fixed}
+use Rattle.ac_steps.specs.declared.Fixed.the-variants.{Now, Stopped}
+use Rattle.ac_steps.specs.declared.Step.{Step}
+use Rattle.ac_steps.specs.declared.Step.the-variants.{On, Out as Over}
 
 unfoldable pub fixedOf : List ℕ → Fixed → Out ℤ
 fixedOf bytes (Now value c) = got value (sourceOf bytes c)
