@@ -3,7 +3,7 @@ use mathlib.Core.Path.{_≡_, refl}
 use mathlib.Core.List.{List, [], _∷_, map}
 use Prim.Native.Nat.{ℕ}
 use lib.IntN.{pos, negsuc}
-use Rattle.records.specs.Fields.{past, pairAt, numberAt, part, lent, lowered, valueAt, sizeAt}
+use Rattle.test_rules.specs.Fields.{past, pairAt, numberAt, part, lent, lowered, valueAt, sizeAt}
 
 abbrev five : List ℕ
 five = 1 ∷ 2 ∷ 3 ∷ 4 ∷ 5 ∷ []

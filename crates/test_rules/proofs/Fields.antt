@@ -7,7 +7,7 @@ use borrow.Author.Tests.{leb-true, leb-false, le-leb, lt-leb}
 use lib.ListN.{length, getD, take, drop, List·getD-eq-default}
 use lib.Dec.{leb}
 use Rattle.laws.proofs.Choices.{by-test}
-use Rattle.records.specs.Fields.{past, pairAt, numberAt, part, lent}
+use Rattle.test_rules.specs.Fields.{past, pairAt, numberAt, part, lent}
 
 pub on-inside : (end at n : ℕ) → at + n ≤ end → past end at n ≡ at + n
 unfolding past

@@ -3,9 +3,9 @@ use mathlib.Core.Bool.{Bool, true, false, cond}
 use mathlib.Core.List.{List}
 use Prim.Native.Nat.{ℕ, _+_, _-_, _%_}
 use lib.Dec.{eqb}
-use Rattle.records.specs.Fields.{numberAt}
-use Rattle.tallies.specs.declared.Finding.{Finding}
-use Rattle.tallies.specs.declared.Run.{Run}
+use Rattle.test_rules.specs.Fields.{numberAt}
+use Rattle.test_rules.specs.declared.Finding.{Finding}
+use Rattle.test_rules.specs.declared.Run.{Run}
 
 unfoldable pub begun : List ℕ → Run
 begun bytes = record { at = numberAt bytes 4; left = numberAt bytes 0; group = numberAt bytes (numberAt bytes 4); right = 0; all = 0 }

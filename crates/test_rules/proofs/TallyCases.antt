@@ -7,10 +7,10 @@ use lib.Dec.{eqb}
 use lib.IntN.{pos, negsuc}
 use Rattle.laws.specs.declared.Found.the-variants.{At, Nothing}
 use Rattle.answers.specs.declared.Answer.{Answer}
-use Rattle.records.specs.Fields.{pairAt, numberAt}
-use Rattle.tallies.specs.declared.Run.{Run}
-use Rattle.tallies.specs.Wanted.{wanted, isWanted, sameValue, nothing, right}
-use Rattle.tallies.specs.Runs.{begun, counted, goesOn, moved, nextRun}
+use Rattle.test_rules.specs.Fields.{pairAt, numberAt}
+use Rattle.test_rules.specs.declared.Run.{Run}
+use Rattle.test_rules.specs.Wanted.{wanted, isWanted, sameValue, nothing, right}
+use Rattle.test_rules.specs.Runs.{begun, counted, goesOn, moved, nextRun}
 
 -- what is expected, behind it what stood there, and zeros after a refusal
 pub left : map (wanted {A = ℕ} 0 7 (5 ∷ 6 ∷ []) 0) (0 ∷ 1 ∷ 2 ∷ []) ≡ 5 ∷ 6 ∷ 7 ∷ []

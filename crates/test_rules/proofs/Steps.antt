@@ -4,10 +4,10 @@ use mathlib.Core.Bool.{Bool, true, false}
 use mathlib.Core.List.{List}
 use Prim.Native.Nat.{ℕ, _-_, _<_}
 use native.Mathlib.Omega.{arith}
-use Rattle.records.specs.Fields.{numberAt}
-use Rattle.tallies.specs.declared.Finding.{Finding}
-use Rattle.tallies.specs.declared.Run.{Run}
-use Rattle.tallies.specs.Runs.{counted, goesOn, moved, nextRun}
+use Rattle.test_rules.specs.Fields.{numberAt}
+use Rattle.test_rules.specs.declared.Finding.{Finding}
+use Rattle.test_rules.specs.declared.Run.{Run}
+use Rattle.test_rules.specs.Runs.{counted, goesOn, moved, nextRun}
 
 pub next-run-is : (bytes : List ℕ) (r : Run) (ran : Finding) {k : Run} {group : ℕ} {same : Bool} → k ≡ counted r (ran .good) → group ≡ numberAt bytes (ran .next) → same ≡ goesOn (k .left) (k .group) group → moved same k (ran .next) group ≡ nextRun bytes r ran
 unfolding nextRun
