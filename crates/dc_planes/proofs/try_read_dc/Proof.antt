@@ -1,4 +1,4 @@
--- `planes::try_read_dc` meets its contract: the refusals in their order. Assumes nothing.
+-- `dc_planes::try_read_dc` meets its contract: the refusals in their order. Assumes nothing.
 use mathlib.Core.Path.{_≡_, sym, _∙_}
 use mathlib.Core.Bool.{true}
 use borrow.Author.Tests.{not-true, not-false, eq-eqb, ne-eqb, le-leb, lt-leb}
@@ -8,11 +8,11 @@ use Rattle.levels.proofs.Ranges.{all-small}
 use Rattle.plane_rules.specs.Plane.{readable}
 use Rattle.plane_rules.specs.Dc.{readDc}
 use Rattle.plane_rules.proofs.Ranges.{Ranged, ranged}
 use Rattle.planes.proofs.Closing.{closing}
 use native.Mathlib.Omega.{arith}
 use borrow.Author.Needs.{needs}
-use Rattle.planes.proofs.try_read_dc.Statement.{statement}
-use Rattle.planes.proofs.try_read_dc.Tie as tie
+use Rattle.dc_planes.proofs.try_read_dc.Statement.{statement}
+use Rattle.dc_planes.proofs.try_read_dc.Tie as tie
 
 returns : tie.Need-returns
 unfolding readDc

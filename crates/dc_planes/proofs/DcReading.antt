@@ -1,7 +1,7 @@
 -- The loop over DC blocks: what is left to read, behind the values read so far, is the whole. Assumes nothing.
 use mathlib.Core.Path.{_≡_, refl, sym, ap, subst, _∙_}
 use mathlib.Core.Bool.{Bool}
-use mathlib.Core.List.{List, [], _∷_, _++_, append-assoc, append-nil}
+use mathlib.Core.List.{List, [], _∷_, append-nil}
 use Prim.Native.Nat.{ℕ, suc, _+_, _≤_, _<_}
 use native.Mathlib.Numerals.{add-one}
 use native.Mathlib.Omega.{arith}
@@ -15,20 +15,11 @@ use Rattle.bits.specs.Code.{unread, sourceOf}
 use Rattle.bits.proofs.Taking.{start-source}
 use Rattle.bit_rules.specs.declared.Stop.{Stop}
 use Rattle.bits.specs.declared.Cursor.{Cursor}
-use Rattle.plane_rules.specs.Plane.{Plane, read, refusing, onto}
+use Rattle.plane_rules.specs.Plane.{read, onto}
 use Rattle.plane_rules.specs.Dc.{newDc, dcBlocks}
 use Rattle.planes.specs.Code.{planeOf, Ran}
 use Rattle.planes.specs.declared.Blocks.the-variants.{Read, Refused}
-
-pub onto-none : (p : Plane) → onto [] p ≡ p
-unfolding onto
-onto-none (read vs s) = refl
-onto-none (refusing r) = refl
-
-pub onto-onto : (vs ws : List ℤ) (p : Plane) → onto vs (onto ws p) ≡ onto (vs ++ ws) p
-unfolding onto
-onto-onto vs ws (read us s) = ap (λ (l : List ℤ). read l s) (sym (append-assoc vs ws us))
-onto-onto vs ws (refusing r) = refl
+use Rattle.planes.proofs.Onto.{onto-none, onto-onto}
 
 -- behind i blocks
 pub record Now (bytes : List ℕ) (values before now : List ℤ) (c : Cursor) (i : ℕ) : Type 0 where

@@ -1,23 +1,16 @@
--- Putting the bits of DC values, and the verdict on the bytes. Assumes nothing.
+-- What a value is more than twice its half, by the code's remainder. Assumes nothing.
 use mathlib.Core.Path.{_≡_, refl, sym, ap, _∙_}
 use mathlib.Core.Bool.{Bool, true, false, not}
-use mathlib.Core.List.{List, [], _∷_, map}
-use Prim.Native.Nat.{ℕ, suc, _+_, _%_, _≤_, _<_}
-use native.Mathlib.Numerals.{add-one}
+use Prim.Native.Nat.{ℕ, suc, _%_}
 use native.Mathlib.Omega.{arith}
 use lib.Dec.{eqb}
 use lib.IntN.{ℤ, pos, negsuc, negℤ}
-use lib.ListN.{length, getD, drop, drop-of-length-le}
-use lib.Seq.{drop-cons}
 use lib.Signed.{remZ, mag-rem}
 use mir.Syntax.{w32}
 use mir.Val.{SFits, ofZ}
 use mir.ValLaws.{sfits-le}
 use borrow.Author.Tests.{eqb-true, eqb-false, eq-eqb, ne-eqb}
 use Rattle.laws.proofs.Integers.{bits-zero, abs-neg}
-use Rattle.bits.specs.Code.{Puts}
-use Rattle.bits.specs.declared.Putter.{Putter}
-use Rattle.bits.proofs.Putting.{Going, going-turn, going-end}
 use Rattle.plane_rules.specs.Dc.{dcBit}
 use Rattle.plane_rules.proofs.Halves.{bit-up, bit-down}
 
@@ -43,15 +36,3 @@ pub low-bit : (v : ℤ) → SFits w32 v → not (eqb (ofZ w32 (remZ v (pos 2))) 
 low-bit (pos n) f = ap not (bits-zero w32 (pos (n % 2)) (rest-fits f)) ∙ odd-up n ∙ sym (bit-up n)
 low-bit (negsuc n) f =
     ap not (bits-zero w32 (negℤ (pos (suc n % 2))) (rest-fits f) ∙ ap (λ (k : ℕ). eqb k 0) (abs-neg (pos (suc n % 2)))) ∙ odd-down n ∙ sym (bit-down n)
-
--- ---- the loop over the values
-
-module _ {before memory : List ℕ} {p q : Putter} (values : List ℤ) (i : ℕ) {all : List Bool} (g : Going before memory p q (map dcBit (drop i values)) all) where
-  pub bits-turn : {after : List ℕ} {r : Putter} {b : Bool} → i < length values → b ≡ dcBit (getD values i (pos 0)) → Puts memory after q r (b ∷ [])
-      → Going before after p r (map dcBit (drop (i + 1) values)) all
-  bits-turn h e f =
-      let next : drop i values ≡ getD values i (pos 0) ∷ drop (i + 1) values = rw (add-one i) (drop-cons values i (pos 0) h) in
-      going-turn (dcBit (getD values i (pos 0)) ∷ []) (map dcBit (drop (i + 1) values)) (rw next at g) (rw e at f)
-
-  pub bits-end : length values ≤ i → Puts before memory p q all
-  bits-end h = going-end (rw (drop-of-length-le values h) at g)
