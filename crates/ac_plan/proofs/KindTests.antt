@@ -13,7 +13,7 @@ use Rattle.laws.proofs.Integers.{bits-one}
 use Rattle.bit_rules.specs.Digits.{odd}
 use Rattle.plane_rules.specs.AcWrite.{keep, kindOf}
 use Rattle.plane_rules.proofs.Halves.{bit-up, bit-down, kind-one, kind-minus-one, kind-up, kind-down}
-use Rattle.planes.proofs.DcWriting.{low-bit}
+use Rattle.planes.proofs.LowBit.{low-bit}
 use Rattle.ac_plan.specs.Code.{stillIs}
 
 -- equal bits, equal numbers

@@ -23,7 +23,7 @@ use Rattle.plane_rules.specs.Plane.{Plane, read, onto}
 use Rattle.plane_rules.specs.AcRead.{acBlock, acBlocks, cut}
 use Rattle.planes.specs.Code.{planeOf, Ran, Small}
 use Rattle.planes.specs.declared.Blocks.the-variants.{Read, Refused}
-use Rattle.planes.proofs.DcReading.{onto-none, onto-onto}
+use Rattle.planes.proofs.Onto.{onto-none, onto-onto}
 use Rattle.ac_tasks.specs.Code.{openOf}
 use Rattle.ac_tasks.specs.declared.Open.{Open}
 use Rattle.ac_tasks.specs.declared.Open.the-variants.{Nothing}

@@ -1,6 +1,6 @@
 // Runs the vectors that tools/vectors/boxes.py made through `xt_box_bytes`: a line for each group.
 use answers::Answer;
-use tallies::Finding;
+use test_rules::Finding;
 
 // What a call for C answered.
 fn called(number: u32, place: u64) -> Answer {

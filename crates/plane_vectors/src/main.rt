@@ -1,6 +1,6 @@
 // Runs the vectors that tools/vectors/planes.py made through the calls on planes: a line for each group.
 use answers::Answer;
-use tallies::Finding;
+use test_rules::Finding;
 
 // A number that stands `above` too high.
 fn brought_down(x: usize, above: usize) -> i32 {

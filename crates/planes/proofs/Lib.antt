@@ -1,3 +1,3 @@
+pub mod Onto
+pub mod LowBit
 pub mod Closing
-pub mod DcReading
-pub mod DcWriting

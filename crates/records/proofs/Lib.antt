@@ -1,3 +1,1 @@
-pub mod Fields
 pub mod Lists
-pub mod Cases

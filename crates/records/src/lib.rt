@@ -3,7 +3,7 @@ ghost use mathlib.Core.Path.{_≡_};
 ghost use Prim.Native.Nat.{_<_};
 ghost use lib.ListN.{length, getD};
 ghost use Rattle.laws.specs.Index.{tab};
-ghost use Rattle.records.specs.Fields.{past, pairAt, numberAt, part, lent, lowered, valueAt, sizeAt};
+ghost use Rattle.test_rules.specs.Fields.{past, pairAt, numberAt, part, lent, lowered, valueAt, sizeAt};
 
 fn wide(x: u8) -> usize
     ensures { λ r. ⌜ (r ≡ x) × (r < 256) ⌝ }

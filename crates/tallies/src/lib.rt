@@ -1,30 +1,16 @@
 // How the calls of records came out: what a call must leave, whether it was right, and the tally of each group.
 use answers::Answer;
 use laws::Found;
+use test_rules::Finding;
+use test_rules::Run;
 ghost use mathlib.Core.Path.{_≡_};
 ghost use Prim.Native.Nat.{_-_};
 ghost use lib.IntN.{pos};
 ghost use lib.ListN.{length};
 ghost use lib.Dec.{eqb};
 ghost use Rattle.laws.specs.First.{firstFail};
-ghost use Rattle.tallies.specs.Wanted.{wanted, isWanted, sameValue, right as Wanted·right};
-ghost use Rattle.tallies.specs.Runs.{goesOn, counted as Runs·counted, begun as Runs·begun, nextRun};
-
-// A record was run: whether it was right, and where the next one stands.
-pub struct Finding {
-    pub good: bool,
-    pub next: usize,
-}
-
-// Records are run one after the other: where the next one stands, how many are left, and of its group, which is where the
-// group's name stands, how many were run and were right.
-pub struct Run {
-    pub at: usize,
-    pub left: usize,
-    pub group: usize,
-    pub right: u64,
-    pub all: u64,
-}
+ghost use Rattle.test_rules.specs.Wanted.{wanted, isWanted, sameValue, right as Wanted·right};
+ghost use Rattle.test_rules.specs.Runs.{goesOn, counted as Runs·counted, begun as Runs·begun, nextRun};
 
 // What a call must leave at an index: 0 after a refusal, else the byte expected, and behind those the 7 of before.
 fn wanted_byte(expected: &[u8], number: usize, i: usize) -> u8

@@ -1,5 +1,5 @@
 // Runs the transform on the records that tools/vectors/transform.py computed by itself: a line for each group.
-use tallies::Finding;
+use test_rules::Finding;
 
 // A record of the file: the numbers before its lists, how long these are, and where they stand.
 struct Case {

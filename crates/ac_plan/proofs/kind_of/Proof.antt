@@ -4,7 +4,7 @@ use mir.Syntax.{w32}
 use mir.Val.{ofZ}
 use mir.Facts.{toZ-ofZ}
 use Rattle.laws.proofs.Integers.{half-fits}
-use Rattle.planes.proofs.DcWriting.{rest-fits}
+use Rattle.planes.proofs.LowBit.{rest-fits}
 use Rattle.plane_rules.proofs.Halves.{kind-zero, kind-one, kind-minus-one}
 use Rattle.ac_plan.specs.Code.{kindIs}
 use Rattle.ac_plan.proofs.KindTests.{is-zero, is-one, is-minus-one, kept}

@@ -5,8 +5,8 @@ use Prim.Native.Nat.{_-_}
 use lib.ListN.{length}
 use Rattle.bit_rules.specs.Table.{table}
 use Rattle.ac_tasks.specs.Code.{taskOf, openOf, askedOf, blockOf}
-use Rattle.ac_reader.specs.Code.{At}
-use Rattle.ac_reader.proofs.Positions.{at-first, at-asked-stopped, at-asked, at-end}
+use Rattle.ac_steps.specs.Code.{At}
+use Rattle.ac_steps.proofs.Positions.{at-first, at-asked-stopped, at-asked, at-end}
 use native.Mathlib.Omega.{arith}
 use borrow.Author.Needs.{needs}
 use Rattle.ac_reader.proofs.read_block.Statement.{statement}

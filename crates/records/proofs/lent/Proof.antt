@@ -1,6 +1,6 @@
 -- `records::lent` meets its contract. Assumes nothing.
 use borrow.Author.Needs.{needs}
-use Rattle.records.proofs.Fields.{lent-is}
+use Rattle.test_rules.proofs.Fields.{lent-is}
 use Rattle.records.proofs.lent.Statement.{statement}
 use Rattle.records.proofs.lent.Tie as tie
 

@@ -1,7 +1,7 @@
 -- `records::number_at` meets its contract. Assumes nothing.
 use borrow.Author.Needs.{needs}
 use native.Mathlib.Omega.{arith}
-use Rattle.records.proofs.Fields.{number-is}
+use Rattle.test_rules.proofs.Fields.{number-is}
 use Rattle.records.proofs.number_at.Statement.{statement}
 use Rattle.records.proofs.number_at.Tie as tie
 

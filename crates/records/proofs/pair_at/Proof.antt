@@ -1,7 +1,7 @@
 -- `records::pair_at` meets its contract. Assumes nothing.
 use borrow.Author.Needs.{needs}
 use native.Mathlib.Omega.{arith}
-use Rattle.records.proofs.Fields.{pair-is}
+use Rattle.test_rules.proofs.Fields.{pair-is}
 use Rattle.records.proofs.pair_at.Statement.{statement}
 use Rattle.records.proofs.pair_at.Tie as tie
 

@@ -2,7 +2,7 @@
 use mathlib.Core.Path.{_≡_, sym}
 use Prim.Native.Nat.{_+_, _-_}
 use native.Mathlib.Omega.{arith}
-use Rattle.records.proofs.Fields.{part-none, part-some}
+use Rattle.test_rules.proofs.Fields.{part-none, part-some}
 use borrow.Author.Needs.{needs}
 use Rattle.records.proofs.part.Statement.{statement}
 use Rattle.records.proofs.part.Tie as tie

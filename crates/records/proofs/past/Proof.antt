@@ -1,7 +1,7 @@
 -- `records::past` meets its contract. Assumes nothing.
 use mathlib.Core.Path.{sym}
 use native.Mathlib.Omega.{arith}
-use Rattle.records.proofs.Fields.{on-inside, on-end}
+use Rattle.test_rules.proofs.Fields.{on-inside, on-end}
 use borrow.Author.Needs.{needs}
 use Rattle.records.proofs.past.Statement.{statement}
 use Rattle.records.proofs.past.Tie as tie

@@ -3,9 +3,9 @@ use mathlib.Core.Path.{refl}
 use Prim.Native.Nat.{_*_, _-_}
 use native.Mathlib.Omega.{arith}
 use lib.ListN.{length}
-use Rattle.records.specs.Fields.{pairAt, sizeAt}
+use Rattle.test_rules.specs.Fields.{pairAt, sizeAt}
 use Rattle.records.proofs.Lists.{Reading, reading-start, reading-long, reading-turn, reading-end}
-use Rattle.records.proofs.Fields.{on-later, pair-behind}
+use Rattle.test_rules.proofs.Fields.{on-later, pair-behind}
 use borrow.Author.Needs.{needs}
 use Rattle.records.proofs.sizes_at.Statement.{statement}
 use Rattle.records.proofs.sizes_at.Tie as tie

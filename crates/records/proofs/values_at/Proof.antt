@@ -5,9 +5,9 @@ use native.Mathlib.Omega.{arith}
 use lib.ListN.{length}
 use mir.Syntax.{w32}
 use Rattle.laws.proofs.Integers.{back}
-use Rattle.records.specs.Fields.{lowered, numberAt, valueAt}
+use Rattle.test_rules.specs.Fields.{lowered, numberAt, valueAt}
 use Rattle.records.proofs.Lists.{Reading, reading-start, reading-long, reading-turn, reading-end}
-use Rattle.records.proofs.Fields.{on-later, number-behind}
+use Rattle.test_rules.proofs.Fields.{on-later, number-behind}
 use borrow.Author.Needs.{needs}
 use Rattle.records.proofs.values_at.Statement.{statement}
 use Rattle.records.proofs.values_at.Tie as tie

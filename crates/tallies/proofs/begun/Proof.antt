@@ -1,5 +1,5 @@
 -- `tallies::begun` meets its contract. Assumes nothing.
-use Rattle.tallies.specs.Runs.{begun}
+use Rattle.test_rules.specs.Runs.{begun}
 use borrow.Author.Needs.{needs}
 use Rattle.tallies.proofs.begun.Statement.{statement}
 use Rattle.tallies.proofs.begun.Tie as tie

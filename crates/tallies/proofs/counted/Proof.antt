@@ -1,5 +1,5 @@
 -- `tallies::counted` meets its contract. Assumes nothing.
-use Rattle.tallies.specs.Runs.{counted}
+use Rattle.test_rules.specs.Runs.{counted}
 use borrow.Author.Needs.{needs}
 use Rattle.tallies.proofs.counted.Statement.{statement}
 use Rattle.tallies.proofs.counted.Tie as tie

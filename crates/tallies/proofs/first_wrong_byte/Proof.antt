@@ -7,7 +7,7 @@ use lib.Dec.{eqb}
 use Rattle.laws.specs.First.{firstFail}
 use Rattle.laws.specs.declared.Found.the-variants.{Nothing}
 use Rattle.laws.proofs.First.{first-start, first-more, first-found, first-end}
-use Rattle.tallies.specs.Wanted.{isWanted}
+use Rattle.test_rules.specs.Wanted.{isWanted}
 use borrow.Author.Needs.{needs}
 use Rattle.tallies.proofs.first_wrong_byte.Statement.{statement}
 use Rattle.tallies.proofs.first_wrong_byte.Tie as tie

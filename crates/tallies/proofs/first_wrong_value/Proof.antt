@@ -9,7 +9,7 @@ use Rattle.laws.proofs.Integers.{back}
 use Rattle.laws.specs.First.{firstFail}
 use Rattle.laws.specs.declared.Found.the-variants.{Nothing}
 use Rattle.laws.proofs.First.{first-start, first-more, first-found, first-end}
-use Rattle.tallies.specs.Wanted.{isWanted, sameValue}
+use Rattle.test_rules.specs.Wanted.{isWanted, sameValue}
 use borrow.Author.Needs.{needs}
 use Rattle.tallies.proofs.first_wrong_value.Statement.{statement}
 use Rattle.tallies.proofs.first_wrong_value.Tie as tie

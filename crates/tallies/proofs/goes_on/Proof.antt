@@ -1,6 +1,6 @@
 -- `tallies::goes_on` meets its contract. Assumes nothing.
 use borrow.Author.Tests.{eq-eqb, ne-eqb}
-use Rattle.tallies.specs.Runs.{goesOn}
+use Rattle.test_rules.specs.Runs.{goesOn}
 use Rattle.tallies.proofs.goes_on.Statement.{statement}
 use Rattle.tallies.proofs.goes_on.Tie as tie
 

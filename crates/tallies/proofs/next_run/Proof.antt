@@ -1,7 +1,7 @@
 -- `tallies::next_run` meets its contract. Assumes nothing.
 use mathlib.Core.Path.{sym, _∙_}
-use Rattle.tallies.specs.Runs.{moved}
-use Rattle.tallies.proofs.Steps.{next-run-is}
+use Rattle.test_rules.specs.Runs.{moved}
+use Rattle.test_rules.proofs.Steps.{next-run-is}
 use borrow.Author.Needs.{needs}
 use Rattle.tallies.proofs.next_run.Statement.{statement}
 use Rattle.tallies.proofs.next_run.Tie as tie

@@ -1,6 +1,6 @@
 -- `tallies::right` meets its contract. Assumes nothing.
 use borrow.Author.Tests.{eq-eqb, ne-eqb}
-use Rattle.tallies.specs.Wanted.{right, nothing}
+use Rattle.test_rules.specs.Wanted.{right, nothing}
 use borrow.Author.Needs.{needs}
 use Rattle.tallies.proofs.right.Statement.{statement}
 use Rattle.tallies.proofs.right.Tie as tie

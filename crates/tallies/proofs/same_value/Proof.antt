@@ -4,7 +4,7 @@ use lib.Signed.{leZ}
 use mir.Syntax.{w32}
 use mir.Val.{toZ, ofZ}
 use mir.Facts.{toZ-ofZ}
-use Rattle.tallies.specs.Wanted.{sameValue}
+use Rattle.test_rules.specs.Wanted.{sameValue}
 use Rattle.tallies.proofs.same_value.Statement.{statement}
 use Rattle.tallies.proofs.same_value.Tie as tie
 

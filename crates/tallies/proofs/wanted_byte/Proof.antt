@@ -1,6 +1,6 @@
 -- `tallies::wanted_byte` meets its contract. Assumes nothing.
 use borrow.Author.Tests.{eq-eqb, ne-eqb, lt-ltb, le-ltb}
-use Rattle.tallies.specs.Wanted.{wanted}
+use Rattle.test_rules.specs.Wanted.{wanted}
 use borrow.Author.Needs.{needs}
 use Rattle.tallies.proofs.wanted_byte.Statement.{statement}
 use Rattle.tallies.proofs.wanted_byte.Tie as tie

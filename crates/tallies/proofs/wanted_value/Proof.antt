@@ -2,7 +2,7 @@
 use borrow.Author.Tests.{eq-eqb, ne-eqb, lt-ltb, le-ltb}
 use mir.Syntax.{w32}
 use Rattle.laws.proofs.Integers.{back}
-use Rattle.tallies.specs.Wanted.{wanted}
+use Rattle.test_rules.specs.Wanted.{wanted}
 use borrow.Author.Needs.{needs}
 use Rattle.tallies.proofs.wanted_value.Statement.{statement}
 use Rattle.tallies.proofs.wanted_value.Tie as tie

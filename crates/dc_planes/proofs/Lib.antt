@@ -1,0 +1,2 @@
+pub mod DcReading
+pub mod DcWriting
