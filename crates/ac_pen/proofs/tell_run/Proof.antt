@@ -1,12 +1,12 @@
--- `ac_writer::tell_run` meets its contract. Assumes nothing.
+-- `ac_pen::tell_run` meets its contract. Assumes nothing.
 use mathlib.Core.Path.{refl}
 use Prim.Native.Nat.{_*_}
-use Rattle.ac_writer.proofs.Tokens.{told-run}
-use Rattle.ac_writer.proofs.Lengths.{code-bits}
+use Rattle.ac_pen.proofs.Tokens.{told-run}
+use Rattle.ac_pen.proofs.Lengths.{code-bits}
 use native.Mathlib.Omega.{arith}
 use borrow.Author.Needs.{needs}
-use Rattle.ac_writer.proofs.tell_run.Statement.{statement}
-use Rattle.ac_writer.proofs.tell_run.Tie as tie
+use Rattle.ac_pen.proofs.tell_run.Statement.{statement}
+use Rattle.ac_pen.proofs.tell_run.Tie as tie
 
 add-class-of : tie.Need-add-class-of
 add-class-of c = omega (arith, c .before .pre .1 .1)

@@ -1,12 +1,12 @@
--- `ac_writer::class_of` meets its contract: the halvings made, and those still to make, are those of the whole. Assumes nothing.
+-- `ac_pen::class_of` meets its contract: the halvings made, and those still to make, are those of the whole. Assumes nothing.
 use mathlib.Core.Path.{_≡_}
 use Prim.Native.Nat.{_+_, _-_, _≤_}
 use Rattle.plane_rules.specs.AcWrite.{order, class}
-use Rattle.ac_writer.proofs.Classes.{class-turn, class-here, class-end}
+use Rattle.ac_pen.proofs.Classes.{class-turn, class-here, class-end}
 use native.Mathlib.Omega.{arith}
 use borrow.Author.Needs.{needs}
-use Rattle.ac_writer.proofs.class_of.Statement.{statement}
-use Rattle.ac_writer.proofs.class_of.Tie as tie
+use Rattle.ac_pen.proofs.class_of.Statement.{statement}
+use Rattle.ac_pen.proofs.class_of.Tie as tie
 
 abbrev Inv-loop : tie.InvT-loop
 Inv-loop n m₀ r₀ m r = (r ≤ 14) × (r + order (14 - r) m ≡ class n)

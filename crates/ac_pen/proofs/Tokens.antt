@@ -2,7 +2,7 @@
 use mathlib.Core.Path.{_≡_, refl, sym, ap, subst, _∙_}
 use mathlib.Core.Bool.{Bool, true, false, true≢false}
 use mathlib.Core.List.{List, [], _∷_, _++_, append-assoc, append-nil, map}
-use Prim.Native.Nat.{ℕ, suc, _+_, _*_, _/_, _%_}
+use Prim.Native.Nat.{ℕ, suc, _+_, _*_, _/_, _%_, _≤_, _<_}
 use native.Mathlib.Numerals.{add-one}
 use native.Mathlib.Omega.{arith}
 use borrow.Author.Tests.{eq-eqb, ne-eqb}
@@ -16,9 +16,12 @@ use Rattle.bit_rules.specs.Write.{placeOf, codeOf, word}
 use Rattle.codes.specs.Code.{absent, Entered}
 use Rattle.plane_rules.specs.Task.{ended}
 use Rattle.plane_rules.specs.AcWrite.{Token, code, raw, class, emit, orElse, lacking, spelled}
-use Rattle.ac_writer.specs.Code.{firstOf, Told}
-use Rattle.ac_writer.specs.declared.Pen.{Pen}
-use Rattle.ac_writer.proofs.Classes.{run-bits}
+use Rattle.ac_tasks.specs.declared.Job.{Job}
+use Rattle.ac_tasks.specs.declared.Job.the-variants.{Leave, Set, Ended}
+use Rattle.ac_plan.specs.Code.{Short}
+use Rattle.ac_pen.specs.Code.{firstOf, Told}
+use Rattle.ac_pen.specs.declared.Pen.{Pen}
+use Rattle.ac_pen.proofs.Classes.{run-bits}
 
 -- ---- tokens in two parts
 
@@ -103,6 +106,17 @@ module _ (T : Table) {before after : List ℕ} {p r : Pen} {v entry : ℕ} (e : 
     put = rw (append-nil (codeOf (T .counts) (placeOf v (T .values))), ← (rw z at (e .same))) f;
     lack = rw (else-lacked v (placeOf v (T .values)) (sym (e .none) ∙ eq-eqb entry 0 z)) q;
   }
+
+-- ---- a task that a code can tell
+
+pub short-leave : {job : Job} {n : ℕ} → Short job → job ≡ Leave n → n < 16
+short-leave h e = rw e at h
+
+pub short-set : {job : Job} {n : ℕ} {b : Bool} → Short job → job ≡ Set n b → n < 16
+short-set h e = rw e at h
+
+pub short-ended : {job : Job} {n : ℕ} → Short job → job ≡ Ended n → n ≤ 1024
+short-ended h e = rw e at h
 
 -- ---- an end run: its code, then the bits
 

@@ -1,7 +1,7 @@
--- `ac_writer::or_lacking` meets its contract. Assumes nothing.
+-- `ac_pen::or_lacking` meets its contract. Assumes nothing.
 use borrow.Author.Needs.{needs}
-use Rattle.ac_writer.proofs.or_lacking.Statement.{statement}
-use Rattle.ac_writer.proofs.or_lacking.Tie as tie
+use Rattle.ac_pen.proofs.or_lacking.Statement.{statement}
+use Rattle.ac_pen.proofs.or_lacking.Tie as tie
 
 returns : tie.Need-returns
 returns c = rw (c .before .lack .given .1)

@@ -1,13 +1,12 @@
--- `ac_writer::emit` meets its contract. Assumes nothing.
+-- `ac_pen::emit` meets its contract. Assumes nothing.
 use Prim.Native.Nat.{_+_, _*_}
 use Rattle.plane_rules.specs.AcWrite as written
-use Rattle.ac_writer.proofs.Tokens.{told-then}
-use Rattle.ac_writer.proofs.Lengths.{code-bits}
-use Rattle.ac_writer.proofs.Positions.{short-leave, short-set, short-ended}
+use Rattle.ac_pen.proofs.Tokens.{told-then, short-leave, short-set, short-ended}
+use Rattle.ac_pen.proofs.Lengths.{code-bits}
 use native.Mathlib.Omega.{arith}
 use borrow.Author.Needs.{needs}
-use Rattle.ac_writer.proofs.emit.Statement.{statement}
-use Rattle.ac_writer.proofs.emit.Tie as tie
+use Rattle.ac_pen.proofs.emit.Statement.{statement}
+use Rattle.ac_pen.proofs.emit.Tie as tie
 
 mul-tell-code : tie.Need-mul-tell-code
 mul-tell-code c = omega (arith, short-leave (c .before .before .before .before .before .pre .1 .1) (c .before .before .job .given .1))

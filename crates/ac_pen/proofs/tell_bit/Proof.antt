@@ -1,11 +1,11 @@
--- `ac_writer::tell_bit` meets its contract. Assumes nothing.
+-- `ac_pen::tell_bit` meets its contract. Assumes nothing.
 use mathlib.Core.Path.{refl}
 use mathlib.Core.List.{[], _∷_}
-use Rattle.ac_writer.proofs.Tokens.{told-bits}
+use Rattle.ac_pen.proofs.Tokens.{told-bits}
 use native.Mathlib.Omega.{arith}
 use borrow.Author.Needs.{needs}
-use Rattle.ac_writer.proofs.tell_bit.Statement.{statement}
-use Rattle.ac_writer.proofs.tell_bit.Tie as tie
+use Rattle.ac_pen.proofs.tell_bit.Statement.{statement}
+use Rattle.ac_pen.proofs.tell_bit.Tie as tie
 
 put-bit-requires : tie.Need-put-bit-requires
 put-bit-requires c κs = let a = c .before .before .before in (a .pre .0, omega (arith, a .pre .1))

@@ -1,11 +1,11 @@
--- `ac_writer::tell_code` meets its contract. Assumes nothing.
+-- `ac_pen::tell_code` meets its contract. Assumes nothing.
 use mathlib.Core.Path.{refl}
 use Rattle.bits.proofs.Putting.{puts-none}
-use Rattle.ac_writer.proofs.Tokens.{told-held, told-lacked}
+use Rattle.ac_pen.proofs.Tokens.{told-held, told-lacked}
 use native.Mathlib.Omega.{arith}
 use borrow.Author.Needs.{needs}
-use Rattle.ac_writer.proofs.tell_code.Statement.{statement}
-use Rattle.ac_writer.proofs.tell_code.Tie as tie
+use Rattle.ac_pen.proofs.tell_code.Statement.{statement}
+use Rattle.ac_pen.proofs.tell_code.Tie as tie
 
 returns : tie.Need-returns
 returns c =
