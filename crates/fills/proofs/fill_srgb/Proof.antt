@@ -1,12 +1,12 @@
--- `merge::fill_srgb` meets its contract. Assumes nothing.
+-- `fills::fill_srgb` meets its contract. Assumes nothing.
 use borrow.Author.Needs.{needs}
 use mathlib.Core.Path.{_∙_, ap}
 use mathlib.Core.List.{_++_}
 use lib.ListN.{drop}
 use Rattle.merge_rules.specs.Settings.{samples}
-use Rattle.merge.proofs.Tones.{srgb-there, srgb-alike}
-use Rattle.merge.proofs.fill_srgb.Statement.{statement}
-use Rattle.merge.proofs.fill_srgb.Tie as tie
+use Rattle.fills.proofs.Tones.{srgb-there, srgb-alike}
+use Rattle.fills.proofs.fill_srgb.Statement.{statement}
+use Rattle.fills.proofs.fill_srgb.Tie as tie
 
 fill-by-requires : tie.Need-fill-by-requires
 fill-by-requires c κs =

@@ -1,10 +1,10 @@
--- `merge::fill_one` meets its contract. Assumes nothing.
+-- `fills::fill_one` meets its contract. Assumes nothing.
 use mathlib.Core.Path.{ap}
 use Prim.Native.Nat.{_-_, _*_}
 use native.Mathlib.Omega.{arith}
-use Rattle.merge.proofs.Filling.{Filling, filling-start, filling-long, filling-one, filling-end}
-use Rattle.merge.proofs.fill_one.Statement.{statement}
-use Rattle.merge.proofs.fill_one.Tie as tie
+use Rattle.fills.proofs.Filling.{Filling, filling-start, filling-long, filling-one, filling-end}
+use Rattle.fills.proofs.fill_one.Statement.{statement}
+use Rattle.fills.proofs.fill_one.Tie as tie
 
 abbrev Inv-loop : tie.InvT-loop
 Inv-loop s pixels base residual table destination₀ p₀ destination p = Filling s pixels base residual table destination₀ destination p

@@ -1,11 +1,11 @@
--- `merge::fill_three` meets its contract. Assumes nothing.
+-- `fills::fill_three` meets its contract. Assumes nothing.
 use mathlib.Core.Path.{ap}
 use Prim.Native.Nat.{_-_, _*_, _≤_}
 use native.Mathlib.Omega.{arith}
 use lib.ListN.{length, length-set}
-use Rattle.merge.proofs.Filling.{Filling, filling-start, filling-long, filling-three, filling-end}
-use Rattle.merge.proofs.fill_three.Statement.{statement}
-use Rattle.merge.proofs.fill_three.Tie as tie
+use Rattle.fills.proofs.Filling.{Filling, filling-start, filling-long, filling-three, filling-end}
+use Rattle.fills.proofs.fill_three.Statement.{statement}
+use Rattle.fills.proofs.fill_three.Tie as tie
 
 abbrev Inv-loop : tie.InvT-loop
 Inv-loop s pixels base residual table destination₀ p₀ destination p = Filling s pixels base residual table destination₀ destination p

@@ -1,8 +1,8 @@
--- `merge::fill` meets its contract. Assumes nothing.
+-- `fills::fill` meets its contract. Assumes nothing.
 use borrow.Author.Needs.{needs}
-use Rattle.merge.proofs.Tones.{table-other, lent-there}
-use Rattle.merge.proofs.fill.Statement.{statement}
-use Rattle.merge.proofs.fill.Tie as tie
+use Rattle.fills.proofs.Tones.{table-other, lent-there}
+use Rattle.fills.proofs.fill.Statement.{statement}
+use Rattle.fills.proofs.fill.Tie as tie
 
 fill-by-requires : tie.Need-fill-by-requires
 fill-by-requires c κs =

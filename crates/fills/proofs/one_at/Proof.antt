@@ -1,4 +1,4 @@
--- `merge::one_at` meets its contract. Assumes nothing.
+-- `fills::one_at` meets its contract. Assumes nothing.
 use borrow.Author.Needs.{needs}
 use mathlib.Core.Path.{_≡_, ap, _∙_}
 use native.Mathlib.Omega.{arith}
@@ -9,9 +9,9 @@ use mir.Val.{toZ, ofZ}
 use Rattle.laws.proofs.Integers.{back}
 use Rattle.merge_rules.specs.Pixels.{single}
 use Rattle.merge_rules.specs.Steps.{alone, added, scaled, basis}
-use Rattle.merge.proofs.Laws.{in-one, one-alone, one-added}
-use Rattle.merge.proofs.one_at.Statement.{statement}
-use Rattle.merge.proofs.one_at.Tie as tie
+use Rattle.fills.proofs.Laws.{in-one, one-alone, one-added}
+use Rattle.fills.proofs.one_at.Statement.{statement}
+use Rattle.fills.proofs.one_at.Tie as tie
 
 shared-slice-copy-out-basis-one : tie.Need-shared-slice-copy-out-basis-one
 shared-slice-copy-out-basis-one c =

@@ -1,4 +1,4 @@
--- `merge::three_at` meets its contract. Assumes nothing.
+-- `fills::three_at` meets its contract. Assumes nothing.
 use borrow.Author.Needs.{needs}
 use mathlib.Core.Path.{_≡_, _∙_}
 use mathlib.Core.List.{List}
@@ -10,9 +10,9 @@ use Rattle.laws.proofs.Integers.{back}
 use Rattle.merge_rules.specs.Pixels.{Pixel, triple}
 use Rattle.pixel.specs.Code.{threeOf}
 use Rattle.merge_rules.specs.Steps.{basis, stepFour}
-use Rattle.merge.proofs.Laws.{in-first, in-second, in-third, three-alone, three-added}
-use Rattle.merge.proofs.three_at.Statement.{statement}
-use Rattle.merge.proofs.three_at.Tie as tie
+use Rattle.fills.proofs.Laws.{in-first, in-second, in-third, three-alone, three-added}
+use Rattle.fills.proofs.three_at.Statement.{statement}
+use Rattle.fills.proofs.three_at.Tie as tie
 
 shared-slice-copy-out-basis-three : tie.Need-shared-slice-copy-out-basis-three
 shared-slice-copy-out-basis-three c =

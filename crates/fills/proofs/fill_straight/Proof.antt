@@ -1,4 +1,4 @@
--- `merge::fill_straight` meets its contract, by the curve itself or by a table of it. Assumes nothing.
+-- `fills::fill_straight` meets its contract, by the curve itself or by a table of it. Assumes nothing.
 use borrow.Author.Needs.{needs}
 use mathlib.Core.Path.{_∙_, ap}
 use mathlib.Core.List.{_++_}
@@ -8,9 +8,9 @@ use lib.ListN.{length, drop}
 use lib.Pow.{pow-mono}
 use Rattle.merge_rules.specs.Settings.{samples}
 use Rattle.merge_rules.specs.Picture.{mergedPicture}
-use Rattle.merge.proofs.Tones.{straight-other, lent-there, tones-there, tones-alike}
-use Rattle.merge.proofs.fill_straight.Statement.{statement}
-use Rattle.merge.proofs.fill_straight.Tie as tie
+use Rattle.fills.proofs.Tones.{straight-other, lent-there, tones-there, tones-alike}
+use Rattle.fills.proofs.fill_straight.Statement.{statement}
+use Rattle.fills.proofs.fill_straight.Tie as tie
 
 add-power : tie.Need-add-power
 add-power c = omega (arith, c .before .before .before .pre .0 .0 .ranged .rh-small)

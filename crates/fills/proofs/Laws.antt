@@ -1,4 +1,4 @@
--- A pixel of the result from the steps in code, for one component and for three, and the order of refusals. Assumes nothing.
+-- A pixel of the result from the steps in code, for one component and for three. Assumes nothing.
 use borrow.Author.Tests.{eq-eqb, ne-eqb}
 use mathlib.Core.Path.{_≡_, ap}
 use mathlib.Core.List.{List}

@@ -1,9 +1,9 @@
--- `merge::fill_by` meets its contract: one component or three. Assumes nothing.
+-- `fills::fill_by` meets its contract: one component or three. Assumes nothing.
 use borrow.Author.Needs.{needs}
 use mathlib.Core.Logic.{⊎-elim}
 use Rattle.settings.proofs.Laws.{one-or-three}
-use Rattle.merge.proofs.fill_by.Statement.{statement}
-use Rattle.merge.proofs.fill_by.Tie as tie
+use Rattle.fills.proofs.fill_by.Statement.{statement}
+use Rattle.fills.proofs.fill_by.Tie as tie
 
 fill-three-requires : tie.Need-fill-three-requires
 fill-three-requires c κs =
