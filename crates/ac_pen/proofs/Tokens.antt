@@ -8,9 +8,9 @@ use native.Mathlib.Omega.{arith}
 use borrow.Author.Tests.{eq-eqb, ne-eqb}
 use Rattle.laws.specs.declared.Found.{Found}
 use Rattle.laws.specs.declared.Found.the-variants.{At, Nothing}
-use Rattle.bits.specs.Code.{Sound, Puts}
+use Rattle.bit_putter.specs.Code.{Sound, Puts}
 use Rattle.bit_rules.specs.Digits.{digits}
-use Rattle.bits.proofs.Putting.{puts-none, puts-then, Going, going-start, going-turn, going-end}
+use Rattle.bit_putter.proofs.Putting.{puts-none, puts-then, Going, going-start, going-turn, going-end}
 use Rattle.bit_rules.specs.Table.{Table}
 use Rattle.bit_rules.specs.Write.{placeOf, codeOf, word}
 use Rattle.codes.specs.Code.{absent, Entered}

@@ -5,7 +5,7 @@ use mathlib.Core.List.{List}
 use Prim.Native.Nat.{ℕ, _^_, _<_}
 use Rattle.laws.specs.declared.Found.{Found}
 use Rattle.laws.specs.declared.Found.the-variants.{At, Nothing}
-use Rattle.bits.specs.Code.{Sound, Puts}
+use Rattle.bit_putter.specs.Code.{Sound, Puts}
 use Rattle.bit_rules.specs.Table.{Table, goodTable}
 use Rattle.codes.specs.Code.{Entries}
 use Rattle.plane_rules.specs.AcWrite.{Token, lacking, spelled}

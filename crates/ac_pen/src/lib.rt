@@ -3,7 +3,7 @@ ghost use mathlib.Core.Path.{_≡_};
 ghost use mathlib.Core.List.{[], _∷_};
 ghost use Prim.Native.Nat.{_^_, _≤_, _<_};
 ghost use Rattle.laws.specs.declared.Found.the-variants.{At};
-ghost use Rattle.bits.specs.Code.{Sound};
+ghost use Rattle.bit_putter.specs.Code.{Sound};
 ghost use Rattle.bit_rules.specs.Table.{Table};
 ghost use Rattle.plane_rules.specs.Task.{ended};
 ghost use Rattle.plane_rules.specs.AcWrite as written;
@@ -11,7 +11,7 @@ ghost use Rattle.ac_tasks.specs.Code.{taskOf};
 ghost use Rattle.ac_plan.specs.Code.{Short};
 ghost use Rattle.ac_pen.specs.Code.{firstOf, PenReady, Coded, Known, Told};
 use ac_tasks::Job;
-use bits::Putter;
+use bit_putter::Putter;
 use laws::Found;
 
 // The putter, and the first code that the table lacks.
@@ -48,7 +48,7 @@ fn tell_code(destination: &mut [u8], entries: &[u32; 256], pen: Pen, value: u8) 
             lack: first,
         };
     }
-    let putter = bits::put_digits(destination, p, (entry % 32) as usize, entry / 32);
+    let putter = bit_putter::put_digits(destination, p, (entry % 32) as usize, entry / 32);
     Pen { putter, lack }
 }
 
@@ -59,7 +59,7 @@ fn tell_bit(destination: &mut [u8], pen: Pen, bit: bool) -> Pen
 {
     let p = pen.putter;
     let lack = pen.lack;
-    let putter = bits::put_bit(destination, p, bit);
+    let putter = bit_putter::put_bit(destination, p, bit);
     Pen { putter, lack }
 }
 
@@ -90,7 +90,7 @@ fn tell_run(destination: &mut [u8], entries: &[u32; 256], pen: Pen, n: usize) ->
     let q = tell_code(destination, entries, pen, (16 * r) as u8);
     let p = q.putter;
     let lack = q.lack;
-    let putter = bits::put_digits(destination, p, r, (n + 1) as u32);
+    let putter = bit_putter::put_digits(destination, p, r, (n + 1) as u32);
     Pen { putter, lack }
 }
 

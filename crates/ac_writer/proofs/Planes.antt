@@ -8,7 +8,7 @@ use native.Mathlib.Omega.{arith}
 use lib.IntN.{ℤ}
 use lib.ListN.{length, take, drop, length-take, length-drop}
 use lib.Seq.{take-length}
-use Rattle.bits.proofs.Putting.{new-sound}
+use Rattle.bit_putter.proofs.Putting.{new-sound}
 use Rattle.bit_rules.specs.Table.{Table, goodTable}
 use Rattle.plane_rules.specs.Task.{Task}
 use Rattle.plane_rules.specs.AcWrite.{Kind, writeBlock, writeBlocks, tokens}

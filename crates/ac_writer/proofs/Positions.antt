@@ -7,9 +7,9 @@ use Prim.Native.Nat.{ℕ, zero, suc, _+_, _-_, _^_, _≤_, _<_}
 use native.Mathlib.Omega.{arith}
 use lib.IntN.{ℤ, pos}
 use lib.ListN.{length, getD, length-map, length-append}
-use Rattle.bits.specs.Code.{Sound, Puts}
-use Rattle.bits.specs.declared.Putter.{Putter}
-use Rattle.bits.proofs.Putting.{puts-none, puts-then}
+use Rattle.bit_putter.specs.Code.{Sound, Puts}
+use Rattle.bit_putter.specs.declared.Putter.{Putter}
+use Rattle.bit_putter.proofs.Putting.{puts-none, puts-then}
 use Rattle.bit_rules.specs.Table.{Table, goodTable}
 use Rattle.plane_rules.specs.Task.{Task, walk, pass, over}
 use Rattle.plane_rules.specs.AcWrite.{Kind, keep, still, fresh, Token, raw, kindOf, plan, emit, choose, tell, writeBlock}

@@ -7,12 +7,12 @@ use Prim.Native.Nat.{ℕ, _+_, _≤_, _<_}
 use lib.IntN.{ℤ}
 use lib.ListN.{length}
 use Rattle.laws.specs.declared.Found.the-variants.{Nothing}
-use Rattle.bits.specs.Code.{newPutter, Puts}
+use Rattle.bit_putter.specs.Code.{newPutter, Puts}
 use Rattle.bit_rules.specs.Table.{Table}
 use Rattle.plane_rules.specs.Task.{Task}
 use Rattle.plane_rules.specs.AcWrite.{Kind, Token, raw, choose, tell, writeBlock}
 use Rattle.ac_plan.specs.Code.{kindsFrom}
-use Rattle.bits.specs.declared.Putter.{Putter}
+use Rattle.bit_putter.specs.declared.Putter.{Putter}
 use Rattle.ac_tasks.specs.Code.{taskOf, openOf}
 use Rattle.ac_pen.specs.Code.{Told}
 use Rattle.ac_pen.specs.declared.Pen.{Pen}

@@ -4,7 +4,7 @@ ghost use mathlib.Core.Bool.{Bool, true};
 ghost use Prim.Native.Nat.{ℕ, _+_, _*_, _^_, _≤_, _<_};
 ghost use lib.ListN.{length};
 ghost use Rattle.answers.specs.Verdict.{unless, fitting, Meets, Tried};
-ghost use Rattle.bits.specs.Code.{Sound};
+ghost use Rattle.bit_putter.specs.Code.{Sound};
 ghost use Rattle.bit_rules.specs.Table.{Table, table, goodTable};
 ghost use Rattle.plane_rules.specs.Task as task;
 ghost use Rattle.plane_rules.specs.AcWrite as written;
@@ -19,7 +19,7 @@ use ac_tasks::Job;
 use ac_tasks::Open;
 use answers::Answer;
 use answers::Outcome;
-use bits::Putter;
+use bit_putter::Putter;
 use laws::Found;
 use levels::Part;
 
@@ -75,7 +75,7 @@ fn walk(destination: &mut [u8], p: Putter, zeros: usize, from: usize, block: &[i
         let change = ac_plan::kind_of(block[i]);
         match change {
             Change::Kept(bit) => {
-                q = bits::put_bit(destination, q, bit);
+                q = bit_putter::put_bit(destination, q, bit);
                 i += 1;
             }
             Change::Still => {
@@ -117,7 +117,7 @@ fn rest(destination: &mut [u8], p: Putter, from: usize, block: &[i32]) -> Gone
         let change = ac_plan::kind_of(block[i]);
         match change {
             Change::Kept(bit) => {
-                q = bits::put_bit(destination, q, bit);
+                q = bit_putter::put_bit(destination, q, bit);
                 i += 1;
             }
             Change::Still => i += 1,
@@ -282,7 +282,7 @@ fn put_all(
         return answers::refuse(19, v);
     }
     let p = pen.putter;
-    let count = bits::put_end(destination, p);
+    let count = bit_putter::put_end(destination, p);
     if destination.len() < count {
         return answers::refuse(9, count);
     }

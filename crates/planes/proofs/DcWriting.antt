@@ -15,9 +15,9 @@ use mir.Val.{SFits, ofZ}
 use mir.ValLaws.{sfits-le}
 use borrow.Author.Tests.{eqb-true, eqb-false, eq-eqb, ne-eqb}
 use Rattle.laws.proofs.Integers.{bits-zero, abs-neg}
-use Rattle.bits.specs.Code.{Puts}
-use Rattle.bits.specs.declared.Putter.{Putter}
-use Rattle.bits.proofs.Putting.{Going, going-turn, going-end}
+use Rattle.bit_putter.specs.Code.{Puts}
+use Rattle.bit_putter.specs.declared.Putter.{Putter}
+use Rattle.bit_putter.proofs.Putting.{Going, going-turn, going-end}
 use Rattle.plane_rules.specs.Dc.{dcBit}
 use Rattle.plane_rules.proofs.Halves.{bit-up, bit-down}
 

@@ -1,6 +1,6 @@
 -- `ac_pen::tell_code` meets its contract. Assumes nothing.
 use mathlib.Core.Path.{refl}
-use Rattle.bits.proofs.Putting.{puts-none}
+use Rattle.bit_putter.proofs.Putting.{puts-none}
 use Rattle.ac_pen.proofs.Tokens.{told-held, told-lacked}
 use native.Mathlib.Omega.{arith}
 use borrow.Author.Needs.{needs}

@@ -1,14 +1,14 @@
--- `bits::put_digits` meets its contract: the bits still to put come to what all of them come to. Assumes nothing.
+-- `bit_putter::put_digits` meets its contract: the bits still to put come to what all of them come to. Assumes nothing.
 use mathlib.Core.Path.{_≡_, refl, _∙_}
 use Prim.Native.Nat.{_≤_, _^_}
 use lib.ListN.{length}
 use lib.Pow.{pow-mono}
-use Rattle.bits.proofs.Putting.{small-held}
-use Rattle.bits.proofs.Gathering.{Gathered, gather-start, gather-turn, gather-end}
+use Rattle.bit_putter.proofs.Putting.{small-held}
+use Rattle.bit_putter.proofs.Gathering.{Gathered, gather-start, gather-turn, gather-end}
 use borrow.Author.Needs.{needs}
 use native.Mathlib.Omega.{arith}
-use Rattle.bits.proofs.put_digits.Statement.{statement}
-use Rattle.bits.proofs.put_digits.Tie as tie
+use Rattle.bit_putter.proofs.put_digits.Statement.{statement}
+use Rattle.bit_putter.proofs.put_digits.Tie as tie
 
 abbrev Inv-loop : tie.InvT-loop
 Inv-loop destination₀ size number all at₀ count₀ destination at count =

@@ -1,8 +1,8 @@
--- `bits::put_byte` meets its contract. Assumes nothing.
-use Rattle.bits.proofs.Putting.{plain-put, ff-put}
+-- `bit_putter::put_byte` meets its contract. Assumes nothing.
+use Rattle.bit_putter.proofs.Putting.{plain-put, ff-put}
 use borrow.Author.Needs.{needs}
-use Rattle.bits.proofs.put_byte.Statement.{statement}
-use Rattle.bits.proofs.put_byte.Tie as tie
+use Rattle.bit_putter.proofs.put_byte.Statement.{statement}
+use Rattle.bit_putter.proofs.put_byte.Tie as tie
 
 returns : tie.Need-returns
 returns c = ff-put _ _ _ (c .before .before .before .before .before .before .before .store .ensures) (c .before .before .store2 .ensures) (c .before .before .before .before .if1 .taken)

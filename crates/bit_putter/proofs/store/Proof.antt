@@ -1,9 +1,9 @@
--- `bits::store` meets its contract: past the end `set` changes nothing. Assumes nothing.
+-- `bit_putter::store` meets its contract: past the end `set` changes nothing. Assumes nothing.
 use mathlib.Core.Path.{sym}
 use lib.Seq.{set-out}
 use borrow.Author.Needs.{needs}
-use Rattle.bits.proofs.store.Statement.{statement}
-use Rattle.bits.proofs.store.Tie as tie
+use Rattle.bit_putter.proofs.store.Statement.{statement}
+use Rattle.bit_putter.proofs.store.Tie as tie
 
 returns-2 : tie.Need-returns-2
 returns-2 c = sym (set-out _ _ _ (c .if1 .left))

@@ -1,8 +1,8 @@
--- `bits::put_end` meets its contract. Assumes nothing.
-use Rattle.bits.proofs.Putting.{end-empty, end-padded}
+-- `bit_putter::put_end` meets its contract. Assumes nothing.
+use Rattle.bit_putter.proofs.Putting.{end-empty, end-padded}
 use borrow.Author.Needs.{needs}
-use Rattle.bits.proofs.put_end.Statement.{statement}
-use Rattle.bits.proofs.put_end.Tie as tie
+use Rattle.bit_putter.proofs.put_end.Statement.{statement}
+use Rattle.bit_putter.proofs.put_end.Tie as tie
 
 returns : tie.Need-returns
 returns c = end-empty (c .if1 .taken)

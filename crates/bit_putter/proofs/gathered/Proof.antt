@@ -1,8 +1,8 @@
--- `bits::gathered` meets its contract. Assumes nothing.
-use Rattle.bits.proofs.Gathering.{both}
+-- `bit_putter::gathered` meets its contract. Assumes nothing.
+use Rattle.bit_putter.proofs.Gathering.{both}
 use borrow.Author.Needs.{needs}
-use Rattle.bits.proofs.gathered.Statement.{statement}
-use Rattle.bits.proofs.gathered.Tie as tie
+use Rattle.bit_putter.proofs.gathered.Statement.{statement}
+use Rattle.bit_putter.proofs.gathered.Tie as tie
 
 returns : tie.Need-returns
 returns c = rw (c .low .ensures .0) (both _ _ (c .before .args .number) (c .before .pre .0) (c .before .pre .1))

@@ -12,9 +12,9 @@ use lib.Pow.{pow-pos, high, split, shr-shr, mod-pow-add, shl-exact}
 use lib.Seq.{sets}
 use Rattle.bit_rules.specs.Digits.{bin, odd, digits}
 use Rattle.bit_rules.specs.Pack.{stuffed, packed}
-use Rattle.bits.specs.Code.{Sound, finishing, Puts}
-use Rattle.bits.specs.declared.Putter.{Putter}
-use Rattle.bits.proofs.Putting.{laid, byte-laid, stuffed-short}
+use Rattle.bit_putter.specs.Code.{Sound, finishing, Puts}
+use Rattle.bit_putter.specs.declared.Putter.{Putter}
+use Rattle.bit_putter.proofs.Putting.{laid, byte-laid, stuffed-short}
 use Rattle.bit_rules.proofs.Digits.{bin-odd, digits-length}
 
 -- ---- the code's shifts and masks

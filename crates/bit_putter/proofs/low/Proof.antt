@@ -1,11 +1,11 @@
--- `bits::low` meets its contract. Assumes nothing.
+-- `bit_putter::low` meets its contract. Assumes nothing.
 use native.Mathlib.Nat.{mod-lt}
 use lib.Pow.{pow-pos}
 use native.Mathlib.Omega.{arith}
-use Rattle.bits.proofs.Gathering.{one-moved, masked}
+use Rattle.bit_putter.proofs.Gathering.{one-moved, masked}
 use borrow.Author.Needs.{needs}
-use Rattle.bits.proofs.low.Statement.{statement}
-use Rattle.bits.proofs.low.Tie as tie
+use Rattle.bit_putter.proofs.low.Statement.{statement}
+use Rattle.bit_putter.proofs.low.Tie as tie
 
 sub-result : tie.Need-sub-result
 sub-result c = omega (arith, one-moved (c .args .n) (c .pre), pow-pos (c .args .n))

@@ -1,12 +1,12 @@
--- `bits::fill_up` meets its contract: what is left to fill comes to the same byte. Assumes nothing.
+-- `bit_putter::fill_up` meets its contract: what is left to fill comes to the same byte. Assumes nothing.
 use mathlib.Core.Path.{_≡_, refl, _∙_}
 use Prim.Native.Nat.{_-_, _^_, _≤_, _<_}
 use Rattle.bit_rules.specs.Pack.{padded}
-use Rattle.bits.proofs.Putting.{padded-on, padded-end, room-on, held-byte}
+use Rattle.bit_putter.proofs.Putting.{padded-on, padded-end, room-on, held-byte}
 use borrow.Author.Needs.{needs}
 use native.Mathlib.Omega.{arith}
-use Rattle.bits.proofs.fill_up.Statement.{statement}
-use Rattle.bits.proofs.fill_up.Tie as tie
+use Rattle.bit_putter.proofs.fill_up.Statement.{statement}
+use Rattle.bit_putter.proofs.fill_up.Tie as tie
 
 abbrev Inv-loop : tie.InvT-loop
 Inv-loop held room h₀ m₀ h m = (padded h m ≡ padded held room) × (m ≤ 7) × (h < 2 ^ (7 - m))

@@ -1,9 +1,9 @@
--- `bits::put_bit` meets its contract: a law for the bit that fills the byte and one for the bit that is held. Assumes nothing.
+-- `bit_putter::put_bit` meets its contract: a law for the bit that fills the byte and one for the bit that is held. Assumes nothing.
 use mathlib.Core.Path.{refl}
-use Rattle.bits.proofs.Putting.{joined, put-full, put-held}
+use Rattle.bit_putter.proofs.Putting.{joined, put-full, put-held}
 use borrow.Author.Needs.{needs}
-use Rattle.bits.proofs.put_bit.Statement.{statement}
-use Rattle.bits.proofs.put_bit.Tie as tie
+use Rattle.bit_putter.proofs.put_bit.Statement.{statement}
+use Rattle.bit_putter.proofs.put_bit.Tie as tie
 
 returns : tie.Need-returns
 returns c =

@@ -14,9 +14,9 @@ use lib.Seq.{sets, sets-eq}
 use borrow.Author.Tests.{eq-eqb, ne-eqb}
 use Rattle.bit_rules.specs.Digits.{bin}
 use Rattle.bit_rules.specs.Pack.{stuffed, padded, packed, bytesOf}
-use Rattle.bits.specs.Code.{Sound, newPutter, Written, finishing, Puts, Ends}
-use Rattle.bits.specs.declared.Putter.{Putter}
-use Rattle.bits.proofs.Taking.{moved-up}
+use Rattle.bit_rules.proofs.Digits.{bin-small, moved-up}
+use Rattle.bit_putter.specs.Code.{Sound, newPutter, Written, finishing, Puts, Ends}
+use Rattle.bit_putter.specs.declared.Putter.{Putter}
 
 -- ---- bytes, one after another
 
@@ -62,10 +62,6 @@ byte-laid before {after} at {next} byte rest m e =
 
 pub small-held : (p : Putter) → Sound p → p .held < 128
 small-held p s = let h : 2 ^ (7 - p .room) ≤ 2 ^ 7 = pow-mono {i = 7 - p .room} {j = 7} (omega arith) in omega (arith, s .held)
-
-bin-small : (b : Bool) → bin b < 2
-bin-small true = omega arith
-bin-small false = omega arith
 
 pub joined : (p : Putter) → Sound p → (b : Bool) → bitOr (bitAnd (p .held) 127 * 2 % 256) (bin b) ≡ 2 * p .held + bin b
 joined p s b = rw (moved-up (p .held)) (or-shifted (p .held % 128) 1 (bin b) (bin-small b) ∙ omega (arith, small-held p s))
