@@ -1,8 +1,8 @@
--- `reader_c::residual_of` meets its contract. Assumes nothing.
+-- `choices::residual_of` meets its contract. Assumes nothing.
 use borrow.Author.Tests.{eq-eqb, ne-eqb}
 use Rattle.merge_rules.specs.Call.{residualOf}
-use Rattle.reader_c.proofs.residual_of.Statement.{statement}
-use Rattle.reader_c.proofs.residual_of.Tie as tie
+use Rattle.choices.proofs.residual_of.Statement.{statement}
+use Rattle.choices.proofs.residual_of.Tie as tie
 
 returns : tie.Need-returns
 unfolding residualOf

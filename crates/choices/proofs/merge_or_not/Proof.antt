@@ -1,10 +1,10 @@
--- `reader_c::merge_or_not` meets its promise. Assumes nothing.
+-- `choices::merge_or_not` meets its promise. Assumes nothing.
 use mathlib.Core.Path.{refl}
 use borrow.Author.Tests.{eq-eqb, ne-eqb}
 use Rattle.merge_rules.specs.Call.{mergeCall}
 use borrow.Author.Needs.{needs}
-use Rattle.reader_c.proofs.merge_or_not.Statement.{statement}
-use Rattle.reader_c.proofs.merge_or_not.Tie as tie
+use Rattle.choices.proofs.merge_or_not.Statement.{statement}
+use Rattle.choices.proofs.merge_or_not.Tie as tie
 
 returns : tie.Need-returns
 unfolding mergeCall

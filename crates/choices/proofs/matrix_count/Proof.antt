@@ -1,8 +1,8 @@
--- `reader_c::matrix_count` meets its contract. Assumes nothing.
+-- `choices::matrix_count` meets its contract. Assumes nothing.
 use Rattle.merge_rules.specs.Call.{matrixCount}
 use borrow.Author.Needs.{needs}
-use Rattle.reader_c.proofs.matrix_count.Statement.{statement}
-use Rattle.reader_c.proofs.matrix_count.Tie as tie
+use Rattle.choices.proofs.matrix_count.Statement.{statement}
+use Rattle.choices.proofs.matrix_count.Tie as tie
 
 returns : tie.Need-returns
 unfolding matrixCount

@@ -1,4 +1,4 @@
--- `reader_c::weights_of` meets its contract. Assumes nothing.
+-- `choices::weights_of` meets its contract. Assumes nothing.
 use lib.IntN.{pos}
 use lib.ListN.{getD}
 use mir.Syntax.{w16}
@@ -6,8 +6,8 @@ use Rattle.laws.proofs.Integers.{back}
 use borrow.Author.Tests.{lt-ltb, le-ltb}
 use Rattle.merge_rules.specs.Call.{weightsOf}
 use borrow.Author.Needs.{needs}
-use Rattle.reader_c.proofs.weights_of.Statement.{statement}
-use Rattle.reader_c.proofs.weights_of.Tie as tie
+use Rattle.choices.proofs.weights_of.Statement.{statement}
+use Rattle.choices.proofs.weights_of.Tie as tie
 
 returns : tie.Need-returns
 unfolding weightsOf

@@ -1,8 +1,8 @@
--- `reader_c::curve_of` meets its contract. Assumes nothing.
+-- `choices::curve_of` meets its contract. Assumes nothing.
 use borrow.Author.Tests.{eq-eqb, ne-eqb}
 use Rattle.merge_rules.specs.Call.{curveOf}
-use Rattle.reader_c.proofs.curve_of.Statement.{statement}
-use Rattle.reader_c.proofs.curve_of.Tie as tie
+use Rattle.choices.proofs.curve_of.Statement.{statement}
+use Rattle.choices.proofs.curve_of.Tie as tie
 
 returns : tie.Need-returns
 unfolding curveOf

@@ -1,8 +1,8 @@
--- `reader_c::matrix_of` meets its contract. Assumes nothing.
+-- `choices::matrix_of` meets its contract. Assumes nothing.
 use borrow.Author.Tests.{eq-eqb, ne-eqb}
 use Rattle.merge_rules.specs.Call.{matrixOf}
-use Rattle.reader_c.proofs.matrix_of.Statement.{statement}
-use Rattle.reader_c.proofs.matrix_of.Tie as tie
+use Rattle.choices.proofs.matrix_of.Statement.{statement}
+use Rattle.choices.proofs.matrix_of.Tie as tie
 
 returns : tie.Need-returns
 unfolding matrixOf

@@ -1,11 +1,11 @@
--- `reader_c::known` meets its contract: the tests in their order. Assumes nothing.
+-- `choices::known` meets its contract: the tests in their order. Assumes nothing.
 use mathlib.Core.Path.{sym}
 use borrow.Author.Tests.{lt-ltb, le-ltb}
 use Rattle.laws.specs.Index.{every}
 use Rattle.laws.proofs.Tests.{every-last}
 use Rattle.merge_rules.specs.Call.{known}
-use Rattle.reader_c.proofs.known.Statement.{statement}
-use Rattle.reader_c.proofs.known.Tie as tie
+use Rattle.choices.proofs.known.Statement.{statement}
+use Rattle.choices.proofs.known.Tie as tie
 
 returns : tie.Need-returns
 unfolding known every

@@ -1,8 +1,8 @@
--- `reader_c::colour` meets its contract. Assumes nothing.
+-- `choices::colour` meets its contract. Assumes nothing.
 use borrow.Author.Tests.{eq-eqb, ne-eqb}
 use Rattle.merge_rules.specs.Call.{colourOf}
-use Rattle.reader_c.proofs.colour.Statement.{statement}
-use Rattle.reader_c.proofs.colour.Tie as tie
+use Rattle.choices.proofs.colour.Statement.{statement}
+use Rattle.choices.proofs.colour.Tie as tie
 
 returns : tie.Need-returns
 unfolding colourOf

@@ -1,11 +1,11 @@
--- `reader_c::setting_number` meets its contract: the tests in their order. Assumes nothing.
+-- `choices::setting_number` meets its contract: the tests in their order. Assumes nothing.
 use mathlib.Core.Path.{sym, _∙_}
 use borrow.Author.Tests.{not-true, not-false, eq-eqb, ne-eqb}
 use Rattle.laws.specs.Index.{every}
 use Rattle.merge_rules.specs.Call.{settingNumber}
 use borrow.Author.Needs.{needs}
-use Rattle.reader_c.proofs.setting_number.Statement.{statement}
-use Rattle.reader_c.proofs.setting_number.Tie as tie
+use Rattle.choices.proofs.setting_number.Statement.{statement}
+use Rattle.choices.proofs.setting_number.Tie as tie
 
 returns : tie.Need-returns
 unfolding settingNumber every
