@@ -8,7 +8,7 @@ use native.Mathlib.Omega.{arith}
 use lib.IntN.{ℤ}
 use lib.ListN.{length, take, drop, length-take, length-drop}
 use lib.Seq.{take-length}
-use Rattle.bits.proofs.Putting.{new-sound}
+use Rattle.bit_putter.proofs.Putting.{new-sound}
 use Rattle.bit_rules.specs.Table.{Table, goodTable}
 use Rattle.plane_rules.specs.Task.{Task}
 use Rattle.plane_rules.specs.AcWrite.{Kind, writeBlock, writeBlocks, tokens}
@@ -16,9 +16,10 @@ use Rattle.ac_tasks.specs.Code.{openOf}
 use Rattle.ac_plan.specs.Code.{kindsFrom, kindBlocks}
 use Rattle.ac_tasks.specs.declared.Open.the-variants.{Nothing}
 use Rattle.ac_plan.proofs.Looking.{blocks-cons, blocks-end, blocks-start}
-use Rattle.ac_writer.specs.Code.{newPen, Told, Moves}
+use Rattle.ac_pen.specs.Code.{Told}
+use Rattle.ac_pen.proofs.Tokens.{Telling, telling-start, telling-turn, telling-end}
+use Rattle.ac_writer.specs.Code.{newPen, Moves}
 use Rattle.ac_writer.specs.declared.State.{State}
-use Rattle.ac_writer.proofs.Tokens.{Telling, telling-start, telling-turn, telling-end}
 use Rattle.ac_writer.proofs.Lengths.{plane-length}
 
 -- ---- the block with number n, and what follows it, as the code cuts them out

@@ -7,39 +7,28 @@ use Prim.Native.Nat.{ℕ, zero, suc, _+_, _-_, _^_, _≤_, _<_}
 use native.Mathlib.Omega.{arith}
 use lib.IntN.{ℤ, pos}
 use lib.ListN.{length, getD, length-map, length-append}
-use Rattle.bits.specs.Code.{Sound, Puts}
-use Rattle.bits.specs.declared.Putter.{Putter}
-use Rattle.bits.proofs.Putting.{puts-none, puts-then}
+use Rattle.bit_putter.specs.Code.{Sound, Puts}
+use Rattle.bit_putter.specs.declared.Putter.{Putter}
+use Rattle.bit_putter.proofs.Putting.{puts-none, puts-then}
 use Rattle.bit_rules.specs.Table.{Table, goodTable}
 use Rattle.plane_rules.specs.Task.{Task, walk, pass, over}
 use Rattle.plane_rules.specs.AcWrite.{Kind, keep, still, fresh, Token, raw, kindOf, plan, emit, choose, tell, writeBlock}
 use Rattle.ac_tasks.specs.Code.{taskOf, openOf}
 use Rattle.ac_tasks.specs.declared.Job.{Job}
-use Rattle.ac_tasks.specs.declared.Job.the-variants.{Leave, Set, Ended}
 use Rattle.ac_tasks.specs.declared.Open.{Open}
 use Rattle.ac_tasks.specs.declared.Open.the-variants.{Nothing, Doing}
-use Rattle.ac_plan.specs.Code.{kindsFrom, kindIs, Short, Planned}
+use Rattle.ac_plan.specs.Code.{kindsFrom, kindIs, Planned}
 use Rattle.ac_plan.specs.declared.Change.{Change}
 use Rattle.ac_plan.specs.declared.Change.the-variants.{Kept, Still, Fresh}
 use Rattle.ac_plan.proofs.Looking.{kinds-cons, kinds-end}
-use Rattle.ac_writer.specs.Code.{PenReady, Told, Begins, Carries, Works, Moves}
-use Rattle.ac_writer.specs.declared.Pen.{Pen}
+use Rattle.ac_pen.specs.Code.{PenReady, Told}
+use Rattle.ac_pen.specs.declared.Pen.{Pen}
+use Rattle.ac_pen.proofs.Tokens.{told-none, told-bits, Telling, telling-start, telling-turn, telling-end}
+use Rattle.ac_writer.specs.Code.{Begins, Carries, Works, Moves}
 use Rattle.ac_writer.specs.declared.State.{State}
 use Rattle.ac_writer.specs.declared.Begun.{Begun}
 use Rattle.ac_writer.specs.declared.Moved.{Moved}
-use Rattle.ac_writer.proofs.Tokens.{told-none, told-bits, Telling, telling-start, telling-turn, telling-end}
 use Rattle.ac_writer.proofs.Lengths.{tell-length, block-length}
-
--- ---- a task that a code can tell
-
-pub short-leave : {job : Job} {n : ℕ} → Short job → job ≡ Leave n → n < 16
-short-leave h e = rw e at h
-
-pub short-set : {job : Job} {n : ℕ} {b : Bool} → Short job → job ≡ Set n b → n < 16
-short-set h e = rw e at h
-
-pub short-ended : {job : Job} {n : ℕ} → Short job → job ≡ Ended n → n ≤ 1024
-short-ended h e = rw e at h
 
 -- ---- a position
 

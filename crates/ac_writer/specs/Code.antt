@@ -1,54 +1,28 @@
--- What the code's pen and state stand for, and what it means that tokens were told.
+-- What the code's state stands for, and what it means that a task was begun and carried out.
 use mathlib.Core.Path.{_≡_}
-use mathlib.Core.Bool.{Bool, true}
+use mathlib.Core.Bool.{Bool}
 use mathlib.Core.List.{List, _++_, map}
 use mathlib.Core.Option.{Option, some}
-use Prim.Native.Nat.{ℕ, _+_, _^_, _≤_, _<_}
+use Prim.Native.Nat.{ℕ, _+_, _≤_, _<_}
 use lib.IntN.{ℤ}
 use lib.ListN.{length}
-use Rattle.laws.specs.declared.Found.{Found}
-use Rattle.laws.specs.declared.Found.the-variants.{At, Nothing}
-use Rattle.bits.specs.Code.{Sound, newPutter, Puts}
-use Rattle.bit_rules.specs.Table.{Table, goodTable}
-use Rattle.codes.specs.Code.{Entries}
+use Rattle.laws.specs.declared.Found.the-variants.{Nothing}
+use Rattle.bit_putter.specs.Code.{newPutter, Puts}
+use Rattle.bit_rules.specs.Table.{Table}
 use Rattle.plane_rules.specs.Task.{Task}
-use Rattle.plane_rules.specs.AcWrite.{Kind, Token, raw, choose, tell, writeBlock, lacking, spelled}
+use Rattle.plane_rules.specs.AcWrite.{Kind, Token, raw, choose, tell, writeBlock}
 use Rattle.ac_plan.specs.Code.{kindsFrom}
-use Rattle.bits.specs.declared.Putter.{Putter}
+use Rattle.bit_putter.specs.declared.Putter.{Putter}
 use Rattle.ac_tasks.specs.Code.{taskOf, openOf}
-use Rattle.ac_writer.specs.declared.Pen.{Pen}
+use Rattle.ac_pen.specs.Code.{Told}
+use Rattle.ac_pen.specs.declared.Pen.{Pen}
 use Rattle.ac_writer.specs.declared.State.{State}
 use Rattle.ac_writer.specs.declared.Begun.{Begun}
 use Rattle.ac_writer.specs.declared.Moved.{Moved}
 
--- "19 .. first needed in writing order": what was found first stays
-abbrev pub firstOf : Found → Found → Found
-firstOf (At v) next = At v
-firstOf Nothing next = next
-
 -- a pen that has told nothing
 abbrev pub newPen : Pen
 newPen = record { putter = newPutter; lack = Nothing }
-
--- a pen that can go on
-pub record PenReady (p : Pen) : Type 0 where
-  pub sound : Sound (p .putter)
-  pub near : p .putter .at < 2 ^ 60
-
--- the entries of a good table
-pub record Coded (T : Table) (entries : List ℕ) : Type 0 where
-  pub good : goodTable T ≡ true
-  pub codes : Entries T entries
-
--- the entries of some table
-pub record Known (entries : List ℕ) : Type 0 where
-  pub table : Table
-  pub coded : Coded table entries
-
--- the bits of these tokens were put, and the first code that the table lacks is kept
-pub record Told (T : Table) (before after : List ℕ) (p r : Pen) (tokens : List Token) : Type 0 where
-  pub put : Puts before after (p .putter) (r .putter) (spelled T tokens)
-  pub lack : r .lack ≡ firstOf (p .lack) (lacking T tokens)
 
 -- the task at a position was chosen, and told if none was open
 pub record Begins (T : Table) (before after : List ℕ) (s : State) (r : Begun) (kinds : List Kind) (later : List (List Kind)) : Type 0 where

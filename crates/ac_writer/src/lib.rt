@@ -1,34 +1,27 @@
-// AC planes written (docs/RULES.md, E1 to E10): one pass that puts the bits and keeps the first code that the table lacks.
+// AC planes written (docs/RULES.md, E1 to E10): one pass through the blocks, position by position.
 ghost use mathlib.Core.Path.{_≡_};
 ghost use mathlib.Core.Bool.{Bool, true};
-ghost use mathlib.Core.List.{[], _∷_};
 ghost use Prim.Native.Nat.{ℕ, _+_, _*_, _^_, _≤_, _<_};
 ghost use lib.ListN.{length};
-ghost use Rattle.laws.specs.declared.Found.the-variants.{At};
 ghost use Rattle.answers.specs.Verdict.{unless, fitting, Meets, Tried};
-ghost use Rattle.bits.specs.Code.{Sound};
+ghost use Rattle.bit_putter.specs.Code.{Sound};
 ghost use Rattle.bit_rules.specs.Table.{Table, table, goodTable};
-ghost use Rattle.plane_rules.specs.Task.{ended};
 ghost use Rattle.plane_rules.specs.Task as task;
 ghost use Rattle.plane_rules.specs.AcWrite as written;
 ghost use Rattle.ac_tasks.specs.Code.{taskOf, openOf};
-ghost use Rattle.ac_plan.specs.Code.{kindsFrom, kindBlocks, Short};
-ghost use Rattle.ac_writer.specs.Code.{firstOf, newPen, PenReady, Coded, Known, Told, Begins, Carries, Works, Moves};
+ghost use Rattle.ac_plan.specs.Code.{kindsFrom, kindBlocks};
+ghost use Rattle.ac_pen.specs.Code.{PenReady, Coded, Known, Told};
+ghost use Rattle.ac_writer.specs.Code.{newPen, Begins, Carries, Works, Moves};
 ghost use mathlib.Core.Option.{Option, none, some};
+use ac_pen::Pen;
 use ac_plan::Change;
 use ac_tasks::Job;
 use ac_tasks::Open;
 use answers::Answer;
 use answers::Outcome;
-use bits::Putter;
+use bit_putter::Putter;
 use laws::Found;
 use levels::Part;
-
-// The putter, and the first code that the table lacks.
-pub struct Pen {
-    pub putter: Putter,
-    pub lack: Found,
-}
 
 // What goes from position to position: the pen, and the task that is open.
 pub struct State {
@@ -67,97 +60,6 @@ fn went_on(g: Gone, lack: Found, task: Open) -> Moved
     }
 }
 
-// "19 .. the code's value": the first one stays.
-fn or_lacking(lack: Found, value: u8) -> Found
-    ensures { λ r. ⌜ r ≡ firstOf lack (At value) ⌝ }
-{
-    match lack {
-        Found::At(v) => Found::At(v),
-        Found::Nothing => Found::At(value as usize),
-    }
-}
-
-// A code, or that the table lacks it.
-fn tell_code(destination: &mut [u8], entries: &[u32; 256], pen: Pen, value: u8) -> Pen
-    requires { ⌜ PenReady pen ⌝ }
-    requires { ⌜ Known (now entries) ⌝ }
-    ensures { λ r. ⌜ ((T : Table) → Coded T (now (entries .entry))
-        → Told T (now (destination .entry)) (now (destination .exit)) pen r (written.code value ∷ [])) ⌝ }
-{
-    let p = pen.putter;
-    let lack = pen.lack;
-    let at = value as usize;
-    let entry = entries[at];
-    if entry == 0 {
-        let first = or_lacking(lack, value);
-        return Pen {
-            putter: p,
-            lack: first,
-        };
-    }
-    let putter = bits::put_digits(destination, p, (entry % 32) as usize, entry / 32);
-    Pen { putter, lack }
-}
-
-// A bit.
-fn tell_bit(destination: &mut [u8], pen: Pen, bit: bool) -> Pen
-    requires { ⌜ (Sound (pen .putter)) × (pen .putter .at < 2 ^ 61) ⌝ }
-    ensures { λ r. ⌜ ((T : Table) → Told T (now (destination .entry)) (now (destination .exit)) pen r (written.raw bit ∷ [])) ⌝ }
-{
-    let p = pen.putter;
-    let lack = pen.lack;
-    let putter = bits::put_bit(destination, p, bit);
-    Pen { putter, lack }
-}
-
-// The highest r, up to 14, with 2^r at most n.
-fn class_of(n: usize) -> usize
-    ensures { λ r. ⌜ (r ≡ written.class n) × (r ≤ 14) ⌝ }
-{
-    let mut m = n;
-    let mut r = 0;
-    while r < 14 {
-        if m < 2 {
-            return r;
-        }
-        m /= 2;
-        r += 1;
-    }
-    r
-}
-
-// "a run of 2^r + e blocks": its code, then the r low bits.
-fn tell_run(destination: &mut [u8], entries: &[u32; 256], pen: Pen, n: usize) -> Pen
-    requires { ⌜ PenReady pen ⌝ }
-    requires { ⌜ Known (now entries) × (n ≤ 1024) ⌝ }
-    ensures { λ r. ⌜ ((T : Table) → Coded T (now (entries .entry))
-        → Told T (now (destination .entry)) (now (destination .exit)) pen r (written.emit (ended n))) ⌝ }
-{
-    let r = class_of(n + 1);
-    let q = tell_code(destination, entries, pen, (16 * r) as u8);
-    let p = q.putter;
-    let lack = q.lack;
-    let putter = bits::put_digits(destination, p, r, (n + 1) as u32);
-    Pen { putter, lack }
-}
-
-// The code that tells a task, and the bits behind it.
-fn emit(destination: &mut [u8], entries: &[u32; 256], pen: Pen, job: Job) -> Pen
-    requires { ⌜ PenReady pen ⌝ }
-    requires { ⌜ Known (now entries) × Short job ⌝ }
-    ensures { λ r. ⌜ ((T : Table) → Coded T (now (entries .entry))
-        → Told T (now (destination .entry)) (now (destination .exit)) pen r (written.emit (taskOf job))) ⌝ }
-{
-    match job {
-        Job::Leave(n) => tell_code(destination, entries, pen, (16 * n) as u8),
-        Job::Set(n, positive) => {
-            let q = tell_code(destination, entries, pen, (16 * n + 1) as u8);
-            tell_bit(destination, q, positive)
-        }
-        Job::Ended(n) => tell_run(destination, entries, pen, n),
-    }
-}
-
 // Corrections from a position on: so many zeros and new values are passed, and one more. (No task is kept from position to position: a copied enum is slow.)
 fn walk(destination: &mut [u8], p: Putter, zeros: usize, from: usize, block: &[i32]) -> Gone
     requires { ⌜ (Sound p) × (p .at < 2 ^ 61) ⌝ }
@@ -173,7 +75,7 @@ fn walk(destination: &mut [u8], p: Putter, zeros: usize, from: usize, block: &[i
         let change = ac_plan::kind_of(block[i]);
         match change {
             Change::Kept(bit) => {
-                q = bits::put_bit(destination, q, bit);
+                q = bit_putter::put_bit(destination, q, bit);
                 i += 1;
             }
             Change::Still => {
@@ -215,7 +117,7 @@ fn rest(destination: &mut [u8], p: Putter, from: usize, block: &[i32]) -> Gone
         let change = ac_plan::kind_of(block[i]);
         match change {
             Change::Kept(bit) => {
-                q = bits::put_bit(destination, q, bit);
+                q = bit_putter::put_bit(destination, q, bit);
                 i += 1;
             }
             Change::Still => i += 1,
@@ -272,7 +174,7 @@ fn begin(
         Open::Doing(job) => Begun { pen, job },
         Open::Nothing => {
             let job = ac_plan::plan(block, i, later, blocks);
-            let told = emit(destination, entries, pen, job);
+            let told = ac_pen::emit(destination, entries, pen, job);
             Begun { pen: told, job }
         }
     }
@@ -380,7 +282,7 @@ fn put_all(
         return answers::refuse(19, v);
     }
     let p = pen.putter;
-    let count = bits::put_end(destination, p);
+    let count = bit_putter::put_end(destination, p);
     if destination.len() < count {
         return answers::refuse(9, count);
     }

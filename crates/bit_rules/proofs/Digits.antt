@@ -1,8 +1,9 @@
 -- Digits and bits as numbers. Assumes nothing.
 use mathlib.Core.Path.{_≡_, refl, sym, ap}
 use mathlib.Core.Bool.{Bool, true, false}
-use Prim.Native.Nat.{ℕ, zero, suc, _-_, _%_, _<_}
+use Prim.Native.Nat.{ℕ, zero, suc, _-_, _*_, _%_, _<_}
 use native.Mathlib.Omega.{arith}
+use lib.Bits.{bitAnd, and-mask}
 use lib.Dec.{eqb}
 use lib.ListN.{length}
 use borrow.Author.Tests.{eqb-true, eqb-false}
@@ -23,3 +24,7 @@ digits-length (suc n) v = ap suc (digits-length n v)
 pub bin-small : (b : Bool) → bin b < 2
 bin-small true = omega arith
 bin-small false = omega arith
+
+-- a byte moved up by one, by mask and shift
+pub moved-up : (byte : ℕ) → bitAnd byte 127 * 2 % 256 ≡ byte % 128 * 2
+moved-up byte = let e : bitAnd byte 127 ≡ byte % 128 = and-mask byte 7 in omega arith

@@ -5,7 +5,7 @@ use mathlib.Core.Bool.{Bool, true, false}
 use Prim.Native.Nat.{ℕ, zero, suc, _+_, _-_, _*_, _/_, _%_, _≤_, _<_}
 use native.Mathlib.Numerals.{add-one, sub-one}
 use native.Mathlib.Omega.{arith}
-use lib.Bits.{bitAnd, and-mask}
+use lib.Bits.{bitAnd}
 use lib.Dec.{T, eqb, leb, leb·zero, leb·suc-zero, leb·suc-suc}
 use lib.ListN.{length, getD, drop, drop-of-length-le}
 use lib.Seq.{drop-cons}
@@ -14,12 +14,9 @@ use Rattle.laws.specs.Index.{every}
 use Rattle.laws.proofs.Lists.{each}
 use Rattle.bit_rules.specs.Digits.{digits}
 use Rattle.bit_rules.specs.Source.{start, stopped, stop, takeBit, takeFrom, nextByte, afterFF, opened, noByte, onlyPadding}
+use Rattle.bit_rules.proofs.Digits.{moved-up}
 use Rattle.bits.specs.Code.{highs, topOf, unread, takenOf, sourceOf}
 use Rattle.bits.specs.declared.Cursor.{Cursor}
-
--- the code's mask and shift
-pub moved-up : (byte : ℕ) → bitAnd byte 127 * 2 % 256 ≡ byte % 128 * 2
-moved-up byte = let e : bitAnd byte 127 ≡ byte % 128 = and-mask byte 7 in omega arith
 
 -- the unread cursor stands for data of which nothing was read
 pub start-source : (bytes : List ℕ) → sourceOf bytes unread ≡ start bytes

@@ -7,9 +7,9 @@ use native.Mathlib.Numerals.{add-one}
 use lib.IntN.{ℤ, pos}
 use lib.ListN.{length, getD, drop, drop-of-length-le}
 use lib.Seq.{drop-cons}
-use Rattle.bits.specs.Code.{Puts}
-use Rattle.bits.specs.declared.Putter.{Putter}
-use Rattle.bits.proofs.Putting.{Going, going-turn, going-end}
+use Rattle.bit_putter.specs.Code.{Puts}
+use Rattle.bit_putter.specs.declared.Putter.{Putter}
+use Rattle.bit_putter.proofs.Putting.{Going, going-turn, going-end}
 use Rattle.plane_rules.specs.Dc.{dcBit}
 
 module _ {before memory : List ℕ} {p q : Putter} (values : List ℤ) (i : ℕ) {all : List Bool} (g : Going before memory p q (map dcBit (drop i values)) all) where

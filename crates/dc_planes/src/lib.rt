@@ -6,14 +6,14 @@ ghost use lib.IntN.{pos, natAbs};
 ghost use lib.ListN.{length};
 ghost use Rattle.answers.specs.Verdict.{Meets, Tried};
 ghost use Rattle.bit_rules.specs.Source.{start};
-ghost use Rattle.bits.specs.Code.{newPutter, Puts};
+ghost use Rattle.bit_putter.specs.Code.{newPutter, Puts};
 ghost use Rattle.plane_rules.specs.Dc.{newDc, dcBlocks, readDc, dcBit, writeDc};
 ghost use Rattle.planes.specs.Code.{Small, Ran};
 use answers::Answer;
 use answers::Outcome;
 use answers::Refusal;
+use bit_putter::Putter;
 use bits::Cursor;
-use bits::Putter;
 use bits::Taken;
 use laws::Found;
 use levels::Part;
@@ -124,7 +124,7 @@ fn put_dc_bits(values: &[i32], destination: &mut [u8]) -> Putter
     let mut i = 0;
     while i < values.len() {
         let bit = dc_bit(values[i]);
-        p = bits::put_bit(destination, p, bit);
+        p = bit_putter::put_bit(destination, p, bit);
         i += 1;
     }
     p
@@ -145,7 +145,7 @@ fn try_write_dc(plane: u32, blocks: usize, values: &[i32], destination: &mut [u8
         return answers::refuse(11, i);
     }
     let p = put_dc_bits(values, destination);
-    let count = bits::put_end(destination, p);
+    let count = bit_putter::put_end(destination, p);
     if destination.len() < count {
         return answers::refuse(9, count);
     }

@@ -1,4 +1,1 @@
-pub mod Laws
-pub mod Filling
-pub mod Tones
 pub mod Testing

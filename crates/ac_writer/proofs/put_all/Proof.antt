@@ -1,7 +1,7 @@
 -- `ac_writer::put_all` meets its contract: 19, then 9, then the bytes. Assumes nothing.
 use mathlib.Core.Path.{sym, _∙_}
 use Rattle.answers.proofs.Laws.{tried-refused, fitting-given, fitting-short}
-use Rattle.bits.proofs.Putting.{all-counted, all-stored}
+use Rattle.bit_putter.proofs.Putting.{all-counted, all-stored}
 use Rattle.bit_rules.specs.Table.{table}
 use Rattle.plane_rules.specs.AcWrite.{acBytes}
 use Rattle.ac_writer.proofs.Lengths.{plane-length}

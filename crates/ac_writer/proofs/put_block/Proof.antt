@@ -4,7 +4,7 @@ use Prim.Native.Nat.{_-_}
 use lib.ListN.{length}
 use Rattle.bit_rules.specs.Table.{Table}
 use Rattle.ac_plan.specs.Code.{kindBlocks}
-use Rattle.ac_writer.specs.Code.{Coded}
+use Rattle.ac_pen.specs.Code.{Coded}
 use Rattle.ac_writer.proofs.Positions.{begins-near, Walking, walk-start, walk-ready, walk-turn, walk-end}
 use native.Mathlib.Omega.{arith}
 use borrow.Author.Needs.{needs}

@@ -3,7 +3,7 @@ use mathlib.Core.Path.{_≡_, refl, _∙_}
 use Prim.Native.Nat.{_-_}
 use lib.ListN.{length}
 use Rattle.bit_rules.specs.Table.{table}
-use Rattle.ac_writer.specs.Code.{Coded}
+use Rattle.ac_pen.specs.Code.{Coded}
 use Rattle.ac_writer.proofs.Planes.{part-is, part-short, rest-is, rest-long, Running, run-start, run-near, run-turn, run-end}
 use native.Mathlib.Omega.{arith}
 use borrow.Author.Needs.{needs}

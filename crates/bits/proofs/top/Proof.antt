@@ -1,6 +1,6 @@
 -- `bits::top` meets its contract. Assumes nothing.
+use Rattle.bit_rules.proofs.Digits.{moved-up}
 use Rattle.bits.specs.Code.{topOf}
-use Rattle.bits.proofs.Taking.{moved-up}
 use Rattle.bits.proofs.top.Statement.{statement}
 use Rattle.bits.proofs.top.Tie as tie
 

@@ -6,7 +6,7 @@ use lib.IntN.{pos}
 use lib.ListN.{length, getD, drop, length-map}
 use mir.Syntax.{w32}
 use Rattle.laws.proofs.Integers.{back}
-use Rattle.bits.proofs.Putting.{Going, going-start, new-sound}
+use Rattle.bit_putter.proofs.Putting.{Going, going-start, new-sound}
 use Rattle.plane_rules.specs.Dc.{dcBit}
 use Rattle.dc_planes.proofs.DcWriting.{bits-turn, bits-end}
 use borrow.Author.Needs.{needs}

@@ -5,7 +5,7 @@ use lib.ListN.{length-map}
 use borrow.Author.Tests.{not-true, not-false, eq-eqb, ne-eqb}
 use Rattle.laws.specs.Index.{every}
 use Rattle.answers.proofs.Laws.{tried-refused, fitting-given, fitting-short}
-use Rattle.bits.proofs.Putting.{all-counted, all-stored}
+use Rattle.bit_putter.proofs.Putting.{all-counted, all-stored}
 use Rattle.plane_rules.specs.Plane.{writable}
 use Rattle.plane_rules.specs.Dc.{dcBit, dcBytes, writeDc}
 use Rattle.plane_rules.proofs.Ranges.{Ranged, ranged}
