@@ -102,7 +102,7 @@ fn scan_all(file: &[u8], kind: u32, instance: u16, h: Head) -> Scan
         let at = s.end;
         let here = packets::mine_here(file, kind, instance, at);
         if 0 < here {
-            let head = packets::head_at(file, at + 1);
+            let head = segments::head_at(file, at + 1);
             s = found_more(s, h, head, here - 18, at + 2 + here);
         } else {
             match packets::next_mine(file, kind, instance, at) {

@@ -1,9 +1,9 @@
--- `packets::sized_at` meets its contract: each return goes by the tests that led there.
+-- `segments::sized_at` meets its contract: each return goes by the tests that led there.
 use Rattle.box_rules.specs.Walk.{be16, sizedAt}
 use borrow.Author.Tests.{lt-ltb, le-ltb}
 use borrow.Author.Needs.{needs}
-use Rattle.packets.proofs.sized_at.Statement.{statement}
-use Rattle.packets.proofs.sized_at.Tie as tie
+use Rattle.segments.proofs.sized_at.Statement.{statement}
+use Rattle.segments.proofs.sized_at.Tie as tie
 
 returns : tie.Need-returns
 unfolding sizedAt

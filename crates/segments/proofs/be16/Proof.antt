@@ -1,8 +1,8 @@
--- `packets::be16` meets its contract.
+-- `segments::be16` meets its contract.
 use Rattle.box_rules.specs.Walk.{be16}
 use borrow.Author.Needs.{needs}
-use Rattle.packets.proofs.be16.Statement.{statement}
-use Rattle.packets.proofs.be16.Tie as tie
+use Rattle.segments.proofs.be16.Statement.{statement}
+use Rattle.segments.proofs.be16.Tie as tie
 
 returns : tie.Need-returns
 unfolding be16

@@ -1,9 +1,9 @@
--- `packets::tagged` meets its contract.
+-- `segments::tagged` meets its contract.
 use borrow.Author.Tests.{lt-ltb, le-ltb, eq-eqb, ne-eqb}
 use Rattle.box_rules.specs.Walk.{tagged}
 use borrow.Author.Needs.{needs}
-use Rattle.packets.proofs.tagged.Statement.{statement}
-use Rattle.packets.proofs.tagged.Tie as tie
+use Rattle.segments.proofs.tagged.Statement.{statement}
+use Rattle.segments.proofs.tagged.Tie as tie
 
 returns : tie.Need-returns
 unfolding tagged

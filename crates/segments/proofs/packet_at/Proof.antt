@@ -1,9 +1,9 @@
--- `packets::packet_at` meets its contract: each return goes by the tests that led there.
+-- `segments::packet_at` meets its contract: each return goes by the tests that led there.
 use Rattle.box_rules.specs.Walk.{packetAt}
 use borrow.Author.Tests.{lt-ltb, le-ltb}
 use borrow.Author.Needs.{needs}
-use Rattle.packets.proofs.packet_at.Statement.{statement}
-use Rattle.packets.proofs.packet_at.Tie as tie
+use Rattle.segments.proofs.packet_at.Statement.{statement}
+use Rattle.segments.proofs.packet_at.Tie as tie
 
 returns : tie.Need-returns
 unfolding packetAt

@@ -1,9 +1,9 @@
--- `packets::whole_at` meets its contract.
+-- `segments::whole_at` meets its contract.
 use borrow.Author.Tests.{eq-eqb, ne-eqb}
 use Rattle.box_rules.specs.Walk.{tagged, wholeAt}
 use borrow.Author.Needs.{needs}
-use Rattle.packets.proofs.whole_at.Statement.{statement}
-use Rattle.packets.proofs.whole_at.Tie as tie
+use Rattle.segments.proofs.whole_at.Statement.{statement}
+use Rattle.segments.proofs.whole_at.Tie as tie
 
 returns : tie.Need-returns
 unfolding wholeAt

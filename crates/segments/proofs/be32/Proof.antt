@@ -1,8 +1,8 @@
--- `packets::be32` meets its contract.
+-- `segments::be32` meets its contract.
 use Rattle.box_rules.specs.Walk.{be32}
 use borrow.Author.Needs.{needs}
-use Rattle.packets.proofs.be32.Statement.{statement}
-use Rattle.packets.proofs.be32.Tie as tie
+use Rattle.segments.proofs.be32.Statement.{statement}
+use Rattle.segments.proofs.be32.Tie as tie
 
 returns : tie.Need-returns
 unfolding be32

@@ -1,8 +1,8 @@
--- `packets::head_at` meets its contract: field by field.
+-- `segments::head_at` meets its contract: field by field.
 use Rattle.box_rules.specs.Walk.{headAt}
 use borrow.Author.Needs.{needs}
-use Rattle.packets.proofs.head_at.Statement.{statement}
-use Rattle.packets.proofs.head_at.Tie as tie
+use Rattle.segments.proofs.head_at.Statement.{statement}
+use Rattle.segments.proofs.head_at.Tie as tie
 
 returns : tie.Need-returns
 unfolding headAt

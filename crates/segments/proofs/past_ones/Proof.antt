@@ -1,12 +1,12 @@
--- `packets::past_ones` meets its contract. The run from m on ends where the run from `at` on ends.
+-- `segments::past_ones` meets its contract. The run from m on ends where the run from `at` on ends.
 use borrow.Author.Needs.{needs}
 use Prim.Native.Nat.{_+_, _-_}
 use mathlib.Core.Path.{_≡_, sym, _∙_}
 use lib.ListN.{length, drop}
 use Rattle.box_rules.specs.Walk.{ones}
 use Rattle.box_rules.proofs.Runs.{ones-on, ones-off, ones-end}
-use Rattle.packets.proofs.past_ones.Statement.{statement}
-use Rattle.packets.proofs.past_ones.Tie as tie
+use Rattle.segments.proofs.past_ones.Statement.{statement}
+use Rattle.segments.proofs.past_ones.Tie as tie
 
 abbrev Inv-loop : tie.InvT-loop
 Inv-loop s at m₀ m = m + ones (drop m s) ≡ at + ones (drop at s)

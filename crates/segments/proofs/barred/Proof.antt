@@ -1,8 +1,8 @@
--- `packets::barred` meets its contract.
+-- `segments::barred` meets its contract.
 use borrow.Author.Tests.{lt-ltb, le-ltb}
 use Rattle.box_rules.specs.Walk.{barred}
-use Rattle.packets.proofs.barred.Statement.{statement}
-use Rattle.packets.proofs.barred.Tie as tie
+use Rattle.segments.proofs.barred.Statement.{statement}
+use Rattle.segments.proofs.barred.Tie as tie
 
 returns : tie.Need-returns
 unfolding barred

@@ -1,9 +1,9 @@
--- `packets::full_step` meets its contract: each return goes by the tests that led there.
+-- `segments::full_step` meets its contract: each return goes by the tests that led there.
 use Rattle.box_rules.specs.Walk.{barred, markedAt, stepAt}
 use borrow.Author.Tests.{le-leb, lt-leb, eq-eqb, ne-eqb}
 use borrow.Author.Needs.{needs}
-use Rattle.packets.proofs.full_step.Statement.{statement}
-use Rattle.packets.proofs.full_step.Tie as tie
+use Rattle.segments.proofs.full_step.Statement.{statement}
+use Rattle.segments.proofs.full_step.Tie as tie
 
 returns : tie.Need-returns
 unfolding stepAt markedAt
