@@ -14,7 +14,7 @@ use Rattle.box_rules.specs.Numbers.{numbers, count, firstTwice, firstMissing}
 use Rattle.box_rules.proofs.Smallest.{twice-none}
 use Rattle.box_rules.specs.Box.{joined}
 use Rattle.box_rules.specs.Order.{counting, payloads}
-use Rattle.boxes.specs.Code.{inOrder, rises}
+use Rattle.scans.specs.Code.{inOrder, rises}
 use Rattle.box_rules.proofs.Order.{low, numbers-length, reads-joined, reads-missing, reads-twice, self}
 
 order-reads : (ns : List ℕ) (q : ℕ) → inOrder q ns ≡ true → ns ≡ counting q (length ns)

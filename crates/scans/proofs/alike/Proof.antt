@@ -1,8 +1,8 @@
--- `boxes::alike` meets its contract.
+-- `scans::alike` meets its contract.
 use Rattle.box_rules.specs.Box.{alike}
 use borrow.Author.Tests.{eq-eqb, ne-eqb, not-true, not-false}
-use Rattle.boxes.proofs.alike.Statement.{statement}
-use Rattle.boxes.proofs.alike.Tie as tie
+use Rattle.scans.proofs.alike.Statement.{statement}
+use Rattle.scans.proofs.alike.Tie as tie
 
 returns : tie.Need-returns
 returns c = rw (not-true (c .before .args .flag) (c .if1 .taken))

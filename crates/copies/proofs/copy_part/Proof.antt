@@ -1,13 +1,13 @@
--- `boxes::copy_part` meets its contract: i bytes of the part are pasted.
-use Rattle.boxes.proofs.Puts.{paste-put, copy-turn}
+-- `copies::copy_part` meets its contract: i bytes of the part are pasted.
+use Rattle.copies.proofs.Puts.{paste-put, copy-turn}
 use lib.Seq.{paste, paste-zero}
 use lib.ListN.{length, drop, length-set, length-drop}
 use Prim.Native.Nat.{ℕ, _-_, _≤_}
 use mathlib.Core.Path.{_≡_, refl, ap, _∙_}
 use native.Mathlib.Omega.{arith}
 use borrow.Author.Needs.{needs}
-use Rattle.boxes.proofs.copy_part.Statement.{statement}
-use Rattle.boxes.proofs.copy_part.Tie as tie
+use Rattle.copies.proofs.copy_part.Statement.{statement}
+use Rattle.copies.proofs.copy_part.Tie as tie
 
 abbrev Inv-loop : tie.InvT-loop
 Inv-loop file start len destination₀ to i₀ destination i = (destination ≡ paste destination₀ to (drop start file) i) × (i ≤ len) × (length destination ≡ length destination₀)

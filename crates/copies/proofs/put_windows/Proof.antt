@@ -1,15 +1,15 @@
--- `boxes::put_windows` meets its contract: what is left to write here is the whole at the front.
-use Rattle.boxes.proofs.Windows.{joined-none, joined-start, windows-turn}
-use Rattle.boxes.proofs.Puts.{Writing, write-done}
+-- `copies::put_windows` meets its contract: what is left to write here is the whole at the front.
+use Rattle.copies.proofs.Windows.{joined-none, joined-start, windows-turn}
+use Rattle.copies.proofs.Puts.{Writing, write-done}
 use Rattle.box_rules.specs.Box.{joinedFrom, joined}
-use Rattle.boxes.specs.Code.{mineOf}
+use Rattle.scans.specs.Code.{mineOf}
 use lib.ListN.{length}
 use Prim.Native.Nat.{_+_, _-_, _≤_}
 use mathlib.Core.Path.{_≡_, refl}
 use native.Mathlib.Omega.{arith}
 use borrow.Author.Needs.{needs}
-use Rattle.boxes.proofs.put_windows.Statement.{statement}
-use Rattle.boxes.proofs.put_windows.Tie as tie
+use Rattle.copies.proofs.put_windows.Statement.{statement}
+use Rattle.copies.proofs.put_windows.Tie as tie
 
 abbrev Inv-loop : tie.InvT-loop
 Inv-loop file kind instance n places₀ destination₀ passed₀ to₀ places destination passed to = Writing destination to (joinedFrom (n - passed) (passed + 1) (mineOf file kind instance)) destination₀ 0 (joined (mineOf file kind instance)) × (passed ≤ n) × (length places ≡ length places₀)

@@ -17,11 +17,12 @@ use Rattle.numbers.proofs.Meeting.{numbers-met, numbers-gone}
 use Rattle.box_rules.proofs.Counts.{numbers-append, count-append, count-here}
 use Rattle.windows.specs.Code.{Stands, PlaceOf, Located}
 use Rattle.box_rules.specs.Box.{numbered, joinedFrom, joined}
-use Rattle.boxes.specs.Code.{mineOf, putAt, Windowed}
+use Rattle.scans.specs.Code.{mineOf}
+use Rattle.copies.specs.Code.{putAt, Windowed}
 use Rattle.box_rules.proofs.Order.{none-numbered, each-once}
 use Rattle.box_rules.proofs.Walking.{part-length}
-use Rattle.boxes.proofs.Puts.{Writing, write-start, write-room, write-more}
-use Rattle.boxes.proofs.Answers.{told-fine}
+use Rattle.copies.proofs.Puts.{Writing, write-start, write-room, write-more}
+use Rattle.scans.proofs.Faults.{told-fine}
 
 -- ---- the payload of one number
 

@@ -1,6 +1,6 @@
--- What the passes of the code say of numbers and bytes, worked out by hand and computed.
+-- What a pass of the code says of packets and their numbers, worked out by hand and computed.
 use mathlib.Core.Path.{_≡_, refl}
-use mathlib.Core.List.{List, [], _∷_}
+use mathlib.Core.List.{[], _∷_}
 use Prim.Native.Nat.{ℕ}
 use mathlib.Core.Bool.{true, false}
 use Rattle.box_rules.specs.declared.Head.{Head}
@@ -8,11 +8,11 @@ use Rattle.box_rules.specs.Walk.{be16, be32, headAt, ones, barred, tagged, pack
 use Rattle.box_rules.specs.Packets.{packetsIn, isMine, mine, mineFrom}
 use Rattle.box_rules.specs.Numbers.{count, least, firstTwice, missingFrom, firstMissing}
 use Rattle.box_rules.specs.Box.{alike}
-use Rattle.boxes.specs.declared.Scan.{Scan}
-use Rattle.boxes.specs.declared.Fault.the-variants.{Fine, Twice, Missing}
-use Rattle.boxes.specs.Code.{mineOf, foundMore, inOrder, rises, faultOf, putAt}
+use Rattle.scans.specs.declared.Scan.{Scan}
+use Rattle.scans.specs.declared.Fault.the-variants.{Fine, Twice, Missing}
+use Rattle.scans.specs.Code.{mineOf, foundMore, inOrder, rises, faultOf}
 
--- numbers in order or not, rising or not; 6 before 7; bytes put in their place
+-- numbers in order or not, rising or not; 6 before 7
 pub words : (inOrder 1 (1 ∷ 2 ∷ 3 ∷ []) ≡ true)
     × (inOrder 1 (1 ∷ 3 ∷ 2 ∷ []) ≡ false)
     × (rises 0 (0 ∷ 2 ∷ 5 ∷ []) ≡ true)
@@ -20,9 +20,8 @@ pub words : (inOrder 1 (1 ∷ 2 ∷ 3 ∷ []) ≡ true)
     × (faultOf (2 ∷ 2 ∷ []) ≡ Twice 2)
     × (faultOf (2 ∷ 3 ∷ []) ≡ Missing 1)
     × (faultOf (2 ∷ 1 ∷ []) ≡ Fine)
-    × (putAt (1 ∷ 2 ∷ 3 ∷ 4 ∷ []) 1 (8 ∷ 9 ∷ []) ≡ 1 ∷ 8 ∷ 9 ∷ 4 ∷ [])
-unfolding count least firstTwice missingFrom firstMissing inOrder rises faultOf putAt
-words = (refl, refl, refl, refl, refl, refl, refl, refl)
+unfolding count least firstTwice missingFrom firstMissing inOrder rises faultOf
+words = (refl, refl, refl, refl, refl, refl, refl)
 
 abbrev stating : ℕ → ℕ → Head
 stating q lbox = record { instance = 1; number = q; stated = lbox; heading = 8; kind = 2 }

@@ -1,7 +1,7 @@
--- `boxes::found_more` meets its contract.
+-- `scans::found_more` meets its contract.
 use borrow.Author.Needs.{needs}
-use Rattle.boxes.proofs.found_more.Statement.{statement}
-use Rattle.boxes.proofs.found_more.Tie as tie
+use Rattle.scans.proofs.found_more.Statement.{statement}
+use Rattle.scans.proofs.found_more.Tie as tie
 
 returns : tie.Need-returns
 returns c = cc (c .before .before .before .alike .ensures, c .before .before .both .ensures, c .both2 .ensures)

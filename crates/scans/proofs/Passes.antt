@@ -15,8 +15,8 @@ use Rattle.box_rules.specs.Walk.{stepsFrom, walkFrom, walk, ending}
 use Rattle.box_rules.proofs.Walking.{part-length, walk-on}
 use Rattle.box_rules.specs.Numbers.{numbers}
 use Rattle.box_rules.specs.Box.{alike, agree, total}
-use Rattle.boxes.specs.Code.{inOrder, rises, mineOf, Scanned, foundMore}
-use Rattle.boxes.specs.declared.Scan.{Scan}
+use Rattle.scans.specs.Code.{inOrder, rises, mineOf, Scanned, foundMore}
+use Rattle.scans.specs.declared.Scan.{Scan}
 
 -- counts, totals and tests of what was met and what is left
 record Scanning (all rest : List Packet) (h : Head) (n tot : ℕ) (ag ord ris : Bool) (a : ℕ) : Type 0 where

@@ -11,7 +11,7 @@ use Rattle.box_rules.specs.declared.Head.{Head}
 use Rattle.box_rules.specs.Packets.{Packet, mineFrom}
 use Rattle.packets.specs.Code.{Met}
 use Rattle.box_rules.specs.Order.{payloads}
-use Rattle.boxes.specs.Code.{putAt}
+use Rattle.copies.specs.Code.{putAt}
 use Rattle.box_rules.proofs.Walking.{part-length}
 
 pub put-nil : (d : List ℕ) (at : ℕ) → putAt d at [] ≡ d

@@ -1,6 +1,6 @@
--- `boxes::both` meets its contract.
-use Rattle.boxes.proofs.both.Statement.{statement}
-use Rattle.boxes.proofs.both.Tie as tie
+-- `scans::both` meets its contract.
+use Rattle.scans.proofs.both.Statement.{statement}
+use Rattle.scans.proofs.both.Tie as tie
 
 returns : tie.Need-returns
 returns c = rw (c .if1 .taken)

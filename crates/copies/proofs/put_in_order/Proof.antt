@@ -1,15 +1,15 @@
--- `boxes::put_in_order` meets its contract: what is left to write here is the whole at the front.
+-- `copies::put_in_order` meets its contract: what is left to write here is the whole at the front.
 use Rattle.packets.proofs.Meeting.{met, gone}
-use Rattle.boxes.proofs.Puts.{Writing, write-start, write-done, payload-turn, payloads-none}
+use Rattle.copies.proofs.Puts.{Writing, write-start, write-done, payload-turn, payloads-none}
 use Rattle.box_rules.specs.Order.{payloads}
-use Rattle.boxes.specs.Code.{mineOf}
+use Rattle.scans.specs.Code.{mineOf}
 use Rattle.box_rules.specs.Packets.{mineFrom}
 use lib.ListN.{length}
 use Prim.Native.Nat.{_-_}
 use native.Mathlib.Omega.{arith}
 use borrow.Author.Needs.{needs}
-use Rattle.boxes.proofs.put_in_order.Statement.{statement}
-use Rattle.boxes.proofs.put_in_order.Tie as tie
+use Rattle.copies.proofs.put_in_order.Statement.{statement}
+use Rattle.copies.proofs.put_in_order.Tie as tie
 
 abbrev Inv-loop : tie.InvT-loop
 Inv-loop file kind instance destination₀ at₀ to₀ destination at to = Writing destination to (payloads (mineFrom file kind instance at)) destination₀ 0 (payloads (mineOf file kind instance))

@@ -1,14 +1,14 @@
--- `boxes::scan_all` meets its contract: what was met and what is left make the whole.
+-- `scans::scan_all` meets its contract: what was met and what is left make the whole.
 use Rattle.packets.proofs.Meeting.{met, gone}
-use Rattle.boxes.specs.declared.Scan.{Scan}
-use Rattle.boxes.proofs.Passes.{Passing, pass-start, pass-turn, pass-end, pass-ending}
+use Rattle.scans.specs.declared.Scan.{Scan}
+use Rattle.scans.proofs.Passes.{Passing, pass-start, pass-turn, pass-end, pass-ending}
 use lib.ListN.{length}
 use Prim.Native.Nat.{_-_}
 use mathlib.Core.Path.{ap}
 use native.Mathlib.Omega.{arith}
 use borrow.Author.Needs.{needs}
-use Rattle.boxes.proofs.scan_all.Statement.{statement}
-use Rattle.boxes.proofs.scan_all.Tie as tie
+use Rattle.scans.proofs.scan_all.Statement.{statement}
+use Rattle.scans.proofs.scan_all.Tie as tie
 
 abbrev Inv-loop : tie.InvT-loop
 Inv-loop file kind instance h s₀ s = Passing file kind instance h s

@@ -1,14 +1,14 @@
--- `boxes::put_window` meets its contract: what is left to write here is the window at the start.
+-- `copies::put_window` meets its contract: what is left to write here is the window at the start.
 use Rattle.packets.proofs.Meeting.{met, gone}
-use Rattle.boxes.proofs.Windows.{joined-none, window-start, place-there, window-turn}
-use Rattle.boxes.proofs.Puts.{Writing, write-done}
+use Rattle.copies.proofs.Windows.{joined-none, window-start, place-there, window-turn}
+use Rattle.copies.proofs.Puts.{Writing, write-done}
 use Rattle.box_rules.specs.Box.{joinedFrom}
-use Rattle.boxes.specs.Code.{mineOf}
+use Rattle.scans.specs.Code.{mineOf}
 use Prim.Native.Nat.{_+_, _-_, _≤_}
 use native.Mathlib.Omega.{arith}
 use borrow.Author.Needs.{needs}
-use Rattle.boxes.proofs.put_window.Statement.{statement}
-use Rattle.boxes.proofs.put_window.Tie as tie
+use Rattle.copies.proofs.put_window.Statement.{statement}
+use Rattle.copies.proofs.put_window.Tie as tie
 
 abbrev Inv-loop : tie.InvT-loop
 Inv-loop file kind instance passed k places destination₀ to i₀ end₀ destination i end = Writing destination end (joinedFrom (k - i) (passed + 1 + i) (mineOf file kind instance)) destination₀ to (joinedFrom k (passed + 1) (mineOf file kind instance)) × (i ≤ k)
