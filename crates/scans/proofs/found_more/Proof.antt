@@ -4,7 +4,7 @@ use Rattle.scans.proofs.found_more.Statement.{statement}
 use Rattle.scans.proofs.found_more.Tie as tie
 
 returns : tie.Need-returns
-returns c = cc (c .before .before .before .alike .ensures, c .before .before .both .ensures, c .both2 .ensures)
+returns c = rw (c .before .before .before .alike .ensures, c .before .before .both .ensures, c .both2 .ensures)
 
 pub found-more-spec : {M : Type 1} → statement M
 found-more-spec =

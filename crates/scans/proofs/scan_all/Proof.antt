@@ -1,10 +1,8 @@
 -- `scans::scan_all` meets its contract: what was met and what is left make the whole.
 use Rattle.packets.proofs.Meeting.{met, gone}
-use Rattle.scans.specs.declared.Scan.{Scan}
 use Rattle.scans.proofs.Passes.{Passing, pass-start, pass-turn, pass-end, pass-ending}
 use lib.ListN.{length}
 use Prim.Native.Nat.{_-_}
-use mathlib.Core.Path.{ap}
 use native.Mathlib.Omega.{arith}
 use borrow.Author.Needs.{needs}
 use Rattle.scans.proofs.scan_all.Statement.{statement}
@@ -38,7 +36,7 @@ found-more-requires : tie.Need-found-more-requires Inv-loop μ-loop
 found-more-requires c κs = let m = c .before .before .mine-here .ensures (c .before .if1 .taken) in omega arith
 
 loop-less : tie.Need-loop-less Inv-loop μ-loop
-loop-less c = let m = c .before .before .before .mine-here .ensures (c .before .before .if1 .taken) in omega (arith, ap (λ (s : Scan). s .end) (c .found-more .ensures))
+loop-less c = let m = c .before .before .before .mine-here .ensures (c .before .before .if1 .taken) in rw (c .found-more .ensures) (omega arith)
 
 loop-again : tie.Need-loop-again Inv-loop μ-loop
 loop-again c =
@@ -57,7 +55,7 @@ loop-less-2 c =
     let at-head = c .before .before in
     let at-next-mine = at-head .before .before in
     let m = met _ _ _ _ (at-next-mine .next-mine .ensures) (at-head .head .given .1) in
-    omega (arith, ap (λ (s : Scan). s .end) (c .found-more2 .ensures))
+    rw (c .found-more2 .ensures) (omega arith)
 
 loop-again-2 : tie.Need-loop-again-2 Inv-loop μ-loop
 loop-again-2 c =

@@ -6,7 +6,7 @@ use Rattle.segments.proofs.head_at.Tie as tie
 
 returns : tie.Need-returns
 unfolding headAt
-returns c = cc (c .be323 .ensures)
+returns c = rw (c .before .before .before .be16 .ensures, c .before .before .be32 .ensures, c .before .be322 .ensures, c .be323 .ensures)
 
 pub head-at-spec : {M : Type 1} → statement M
 head-at-spec =
