@@ -19,59 +19,21 @@ use Rattle.packets.specs.Code.{Met}
 use Rattle.box_rules.proofs.Walking.{mine-all}
 use Rattle.box_rules.specs.Numbers.{numbers, numbersFrom, firstTwice, missingFrom, firstMissing}
 use Rattle.box_rules.proofs.Smallest.{pigeonhole}
-use Rattle.boxes.specs.declared.Fault.the-variants.{Fine, Twice, Missing}
+use Rattle.scans.specs.declared.Fault.the-variants.{Fine, Twice, Missing}
 use Rattle.box_rules.specs.Box.{agree, contents, total, joined, assembled, assemble, boxBytes}
 use Rattle.box_rules.specs.Order.{payloads}
-use Rattle.boxes.specs.Code.{inOrder, mineOf, faultBy, faultOf, Numbered, Whole, ReadyIs, putAt}
+use Rattle.scans.specs.Code.{inOrder, mineOf, faultOf}
+use Rattle.copies.specs.Code.{Numbered, putAt}
+use Rattle.boxes.specs.Code.{Whole, ReadyIs}
 use Rattle.boxes.specs.declared.Ready.{Ready}
 use Rattle.boxes.specs.declared.Ready.the-variants.{Not, Yes}
 use Rattle.box_rules.proofs.Order.{numbers-length, fine-total}
-use Rattle.boxes.proofs.InOrder.{order-twice, order-missing, order-joined}
-use Rattle.boxes.proofs.Puts.{put-front}
+use Rattle.scans.proofs.Faults.{fault-fine, fault-twice, fault-missing, told-fine, told-twice, told-missing}
+use Rattle.scans.proofs.InOrder.{order-twice, order-missing, order-joined}
+use Rattle.copies.proofs.Puts.{put-front}
 
--- ---- what is wrong with the numbers
+-- ---- what is wrong with the numbers: the code's searches, by a walk of the file
 
-module _ (ns : List ℕ) where
-  fault-fine : firstTwice ns ≡ Nothing → firstMissing ns ≡ Nothing → faultOf ns ≡ Fine
-  unfolding faultOf
-  fault-fine t m = rw (t, m)
-
-  fault-twice : {q : ℕ} → firstTwice ns ≡ At q → faultOf ns ≡ Twice q
-  unfolding faultOf
-  fault-twice t = rw t
-
-  fault-missing : {q : ℕ} → firstTwice ns ≡ Nothing → firstMissing ns ≡ At q → faultOf ns ≡ Missing q
-  unfolding faultOf
-  fault-missing t m = rw (t, m)
-
-  pub told-fine : faultOf ns ≡ Fine → (firstTwice ns ≡ Nothing) × (firstMissing ns ≡ Nothing)
-  unfolding faultOf
-  told-fine e = go (firstTwice ns) refl (firstMissing ns) refl e
-    where
-      go : (t : Found) → firstTwice ns ≡ t → (m : Found) → firstMissing ns ≡ m → faultBy t m ≡ Fine → (firstTwice ns ≡ Nothing) × (firstMissing ns ≡ Nothing)
-      go (At q) f m g h = let z : _≡_ {A = ℕ} 0 1 = cc in absurd (omega arith)
-      go Nothing f (At q) g h = let z : _≡_ {A = ℕ} 0 1 = cc in absurd (omega arith)
-      go Nothing f Nothing g h = (f, g)
-
-  told-twice : {q : ℕ} → faultOf ns ≡ Twice q → firstTwice ns ≡ At q
-  unfolding faultOf
-  told-twice {q} e = go (firstTwice ns) refl (firstMissing ns) e
-    where
-      go : (t : Found) → firstTwice ns ≡ t → (m : Found) → faultBy t m ≡ Twice q → firstTwice ns ≡ At q
-      go (At p) f m h = let z : p ≡ q = cc in rw (← z) f
-      go Nothing f (At p) h = let z : _≡_ {A = ℕ} 0 1 = cc in absurd (omega arith)
-      go Nothing f Nothing h = let z : _≡_ {A = ℕ} 0 1 = cc in absurd (omega arith)
-
-  told-missing : {q : ℕ} → faultOf ns ≡ Missing q → (firstTwice ns ≡ Nothing) × (firstMissing ns ≡ At q)
-  unfolding faultOf
-  told-missing {q} e = go (firstTwice ns) refl (firstMissing ns) refl e
-    where
-      go : (t : Found) → firstTwice ns ≡ t → (m : Found) → firstMissing ns ≡ m → faultBy t m ≡ Missing q → (firstTwice ns ≡ Nothing) × (firstMissing ns ≡ At q)
-      go (At p) f m g h = let z : _≡_ {A = ℕ} 0 1 = cc in absurd (omega arith)
-      go Nothing f (At p) g h = let z : p ≡ q = cc in (f, rw (← z) g)
-      go Nothing f Nothing g h = let z : _≡_ {A = ℕ} 0 1 = cc in absurd (omega arith)
-
--- the code's searches, by a walk of the file
 module _ (file : List ℕ) (kind instance : ℕ) where
   pub ordered-fine : inOrder 1 (numbers (mineOf file kind instance)) ≡ true → Fine ≡ faultOf (numbers (mineOf file kind instance))
   ordered-fine h = sym (fault-fine _ (order-twice (mineOf file kind instance) h) (order-missing (mineOf file kind instance) h))

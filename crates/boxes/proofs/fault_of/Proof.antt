@@ -1,5 +1,5 @@
 -- `boxes::fault_of` meets its contract.
-use Rattle.boxes.proofs.InOrder.{rises-twice}
+use Rattle.scans.proofs.InOrder.{rises-twice}
 use Rattle.boxes.proofs.Answers.{ordered-fine, searched-fine, searched-twice, searched-once, searched-missing}
 use mathlib.Core.Path.{sym, _∙_}
 use borrow.Author.Needs.{needs}

@@ -1,7 +1,8 @@
 -- `boxes::judged` meets its contract: the walk behind the last packet ends as the whole walk.
 use Prim.Native.Nat.{ℕ}
 use Rattle.answers.specs.Verdict.{Verdict}
-use Rattle.boxes.specs.Code.{mineOf, ReadyIs}
+use Rattle.scans.specs.Code.{mineOf}
+use Rattle.boxes.specs.Code.{ReadyIs}
 use Rattle.boxes.proofs.Answers.{file-refused, file-none, file-some}
 use Rattle.packets.proofs.Meeting.{met, gone}
 use mathlib.Core.Path.{sym, subst, _∙_}

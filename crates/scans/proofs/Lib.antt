@@ -1,0 +1,4 @@
+pub mod Passes
+pub mod InOrder
+pub mod Faults
+pub mod Cases
