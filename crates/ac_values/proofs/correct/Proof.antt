@@ -1,13 +1,13 @@
--- `ac_steps::correct` meets its contract. Assumes nothing.
+-- `ac_values::correct` meets its contract. Assumes nothing.
 use mathlib.Core.Path.{sym, ap, _∙_}
 use mir.Syntax.{w32}
 use mir.Facts.{toZ-ofZ}
 use Rattle.laws.proofs.Integers.{back}
 use Rattle.bits.specs.Code.{takenOf}
-use Rattle.ac_steps.specs.Code.{fixedOf, fixing}
+use Rattle.ac_values.specs.Code.{fixedOf, fixing}
 use borrow.Author.Needs.{needs}
-use Rattle.ac_steps.proofs.correct.Statement.{statement}
-use Rattle.ac_steps.proofs.correct.Tie as tie
+use Rattle.ac_values.proofs.correct.Statement.{statement}
+use Rattle.ac_values.proofs.correct.Tie as tie
 
 returns : tie.Need-returns
 unfolding fixedOf fixing takenOf

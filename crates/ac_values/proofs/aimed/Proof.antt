@@ -1,10 +1,10 @@
--- `ac_steps::aimed` meets its contract. Assumes nothing.
+-- `ac_values::aimed` meets its contract. Assumes nothing.
 use mathlib.Core.Path.{_∙_}
 use mir.Syntax.{w32}
 use Rattle.laws.proofs.Integers.{back}
 use borrow.Author.Needs.{needs}
-use Rattle.ac_steps.proofs.aimed.Statement.{statement}
-use Rattle.ac_steps.proofs.aimed.Tie as tie
+use Rattle.ac_values.proofs.aimed.Statement.{statement}
+use Rattle.ac_values.proofs.aimed.Tie as tie
 
 returns : tie.Need-returns
 returns c = rw (c .if1 .taken)
