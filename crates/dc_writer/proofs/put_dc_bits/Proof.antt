@@ -1,4 +1,4 @@
--- `dc_planes::put_dc_bits` meets its contract: the bits still to put come to what all of them come to. Assumes nothing.
+-- `dc_writer::put_dc_bits` meets its contract: the bits still to put come to what all of them come to. Assumes nothing.
 use mathlib.Core.Path.{_≡_, refl, ap, _∙_}
 use mathlib.Core.List.{map}
 use Prim.Native.Nat.{_≤_, _-_}
@@ -8,11 +8,11 @@ use mir.Syntax.{w32}
 use Rattle.laws.proofs.Integers.{back}
 use Rattle.bit_putter.proofs.Putting.{Going, going-start, new-sound}
 use Rattle.plane_rules.specs.Dc.{dcBit}
-use Rattle.dc_planes.proofs.DcWriting.{bits-turn, bits-end}
+use Rattle.dc_writer.proofs.DcWriting.{bits-turn, bits-end}
 use borrow.Author.Needs.{needs}
 use native.Mathlib.Omega.{arith}
-use Rattle.dc_planes.proofs.put_dc_bits.Statement.{statement}
-use Rattle.dc_planes.proofs.put_dc_bits.Tie as tie
+use Rattle.dc_writer.proofs.put_dc_bits.Statement.{statement}
+use Rattle.dc_writer.proofs.put_dc_bits.Tie as tie
 
 abbrev Inv-loop : tie.InvT-loop
 Inv-loop values destination₀ p₀ i₀ destination p i = (i ≤ length values) × (length destination ≡ length destination₀) × Going destination₀ destination p₀ p (map dcBit (drop i values)) (map dcBit values)

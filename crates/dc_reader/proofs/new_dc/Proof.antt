@@ -1,4 +1,4 @@
--- `dc_planes::new_dc` meets its contract: no intermediate leaves 32 bits. Assumes nothing.
+-- `dc_reader::new_dc` meets its contract: no intermediate leaves 32 bits. Assumes nothing.
 use mathlib.Core.Path.{_≡_}
 use lib.IntN.{pos, _+ℤ_, _*ℤ_}
 use mir.Syntax.{w32}
@@ -10,8 +10,8 @@ use Rattle.laws.proofs.Integers.{fit, abs-prod, abs-sum}
 use Rattle.plane_rules.specs.Dc.{newDc}
 use native.Mathlib.Omega.{arith}
 use borrow.Author.Needs.{needs}
-use Rattle.dc_planes.proofs.new_dc.Statement.{statement}
-use Rattle.dc_planes.proofs.new_dc.Tie as tie
+use Rattle.dc_reader.proofs.new_dc.Statement.{statement}
+use Rattle.dc_reader.proofs.new_dc.Tie as tie
 
 double : (c : tie.Start) → SFits w32 (pos 2 *ℤ c .args .value)
 double c = fit w32 (omega (arith, c .pre, abs-prod (pos 2) (c .args .value)))

@@ -1,2 +1,1 @@
 pub mod DcReading
-pub mod DcWriting

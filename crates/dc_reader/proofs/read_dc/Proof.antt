@@ -1,8 +1,8 @@
--- `dc_planes::read_dc` meets its promise. Assumes nothing.
+-- `dc_reader::read_dc` meets its promise. Assumes nothing.
 use Rattle.answers.proofs.Laws.{meets-given, meets-refused}
 use borrow.Author.Needs.{needs}
-use Rattle.dc_planes.proofs.read_dc.Statement.{statement}
-use Rattle.dc_planes.proofs.read_dc.Tie as tie
+use Rattle.dc_reader.proofs.read_dc.Statement.{statement}
+use Rattle.dc_reader.proofs.read_dc.Tie as tie
 
 returns : tie.Need-returns
 returns c =

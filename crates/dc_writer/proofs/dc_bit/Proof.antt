@@ -1,10 +1,10 @@
--- `dc_planes::dc_bit` meets its contract. Assumes nothing.
+-- `dc_writer::dc_bit` meets its contract. Assumes nothing.
 use mir.Facts.{toZ-ofZ}
 use Rattle.laws.proofs.Integers.{half-fits}
 use Rattle.planes.proofs.LowBit.{rest-fits, low-bit}
 use borrow.Author.Needs.{needs}
-use Rattle.dc_planes.proofs.dc_bit.Statement.{statement}
-use Rattle.dc_planes.proofs.dc_bit.Tie as tie
+use Rattle.dc_writer.proofs.dc_bit.Statement.{statement}
+use Rattle.dc_writer.proofs.dc_bit.Tie as tie
 
 rem-result : tie.Need-rem-result
 rem-result c =

@@ -1,4 +1,4 @@
--- `dc_planes::read_dc_blocks` meets its contract: what is left to read, behind the values read so far, is the whole. Assumes nothing.
+-- `dc_reader::read_dc_blocks` meets its contract: what is left to read, behind the values read so far, is the whole. Assumes nothing.
 use mathlib.Core.Path.{_≡_, sym, ap, _∙_}
 use Prim.Native.Nat.{_-_}
 use lib.IntN.{pos}
@@ -9,10 +9,10 @@ use Rattle.laws.proofs.Integers.{back}
 use Rattle.bit_rules.specs.Source.{got, takeBit}
 use Rattle.bits.specs.Code.{sourceOf, takenOf}
 use Rattle.plane_rules.specs.Dc.{newDc}
-use Rattle.dc_planes.proofs.DcReading.{Now, now-first, now-turn, now-stopped, now-end}
+use Rattle.dc_reader.proofs.DcReading.{Now, now-first, now-turn, now-stopped, now-end}
 use borrow.Author.Needs.{needs}
-use Rattle.dc_planes.proofs.read_dc_blocks.Statement.{statement}
-use Rattle.dc_planes.proofs.read_dc_blocks.Tie as tie
+use Rattle.dc_reader.proofs.read_dc_blocks.Statement.{statement}
+use Rattle.dc_reader.proofs.read_dc_blocks.Tie as tie
 
 abbrev Inv-loop : tie.InvT-loop
 Inv-loop «data» values destination₀ c₀ i₀ destination c i = Now «data» values destination₀ destination c i

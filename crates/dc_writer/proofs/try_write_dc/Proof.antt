@@ -1,4 +1,4 @@
--- `dc_planes::try_write_dc` meets its contract: the refusals in their order. Assumes nothing.
+-- `dc_writer::try_write_dc` meets its contract: the refusals in their order. Assumes nothing.
 use mathlib.Core.Path.{_≡_, sym, _∙_}
 use mathlib.Core.Bool.{true}
 use lib.ListN.{length-map}
@@ -11,8 +11,8 @@ use Rattle.plane_rules.specs.Dc.{dcBit, dcBytes, writeDc}
 use Rattle.plane_rules.proofs.Ranges.{Ranged, ranged}
 use native.Mathlib.Omega.{arith}
 use borrow.Author.Needs.{needs}
-use Rattle.dc_planes.proofs.try_write_dc.Statement.{statement}
-use Rattle.dc_planes.proofs.try_write_dc.Tie as tie
+use Rattle.dc_writer.proofs.try_write_dc.Statement.{statement}
+use Rattle.dc_writer.proofs.try_write_dc.Tie as tie
 
 returns : tie.Need-returns
 unfolding writeDc

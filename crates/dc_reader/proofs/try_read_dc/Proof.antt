@@ -1,4 +1,4 @@
--- `dc_planes::try_read_dc` meets its contract: the refusals in their order. Assumes nothing.
+-- `dc_reader::try_read_dc` meets its contract: the refusals in their order. Assumes nothing.
 use mathlib.Core.Path.{_≡_, sym, _∙_}
 use mathlib.Core.Bool.{true}
 use borrow.Author.Tests.{not-true, not-false, eq-eqb, ne-eqb, le-leb, lt-leb}
@@ -11,8 +11,8 @@ use Rattle.plane_rules.proofs.Ranges.{Ranged, ranged}
 use Rattle.planes.proofs.Closing.{closing}
 use native.Mathlib.Omega.{arith}
 use borrow.Author.Needs.{needs}
-use Rattle.dc_planes.proofs.try_read_dc.Statement.{statement}
-use Rattle.dc_planes.proofs.try_read_dc.Tie as tie
+use Rattle.dc_reader.proofs.try_read_dc.Statement.{statement}
+use Rattle.dc_reader.proofs.try_read_dc.Tie as tie
 
 returns : tie.Need-returns
 unfolding readDc

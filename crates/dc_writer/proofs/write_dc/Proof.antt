@@ -1,8 +1,8 @@
--- `dc_planes::write_dc` meets its promise. Assumes nothing.
+-- `dc_writer::write_dc` meets its promise. Assumes nothing.
 use Rattle.answers.proofs.Laws.{meets-given, meets-refused}
 use borrow.Author.Needs.{needs}
-use Rattle.dc_planes.proofs.write_dc.Statement.{statement}
-use Rattle.dc_planes.proofs.write_dc.Tie as tie
+use Rattle.dc_writer.proofs.write_dc.Statement.{statement}
+use Rattle.dc_writer.proofs.write_dc.Tie as tie
 
 returns : tie.Need-returns
 returns c =
