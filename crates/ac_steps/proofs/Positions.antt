@@ -2,32 +2,27 @@
 use mathlib.Core.Path.{_≡_, refl, sym, ap, _∙_}
 use mathlib.Core.List.{List, [], _∷_, _++_, append-nil}
 use mathlib.Core.Option.{Option, none, some}
-use mathlib.Core.Bool.{Bool, true, false}
+use mathlib.Core.Bool.{Bool}
 use Prim.Native.Nat.{ℕ, zero, suc, _+_, _-_, _≤_, _<_}
 use native.Mathlib.Numerals.{add-one}
 use native.Mathlib.Omega.{arith}
-use lib.IntN.{ℤ, pos, negsuc}
+use lib.IntN.{ℤ, pos}
 use lib.ListN.{length, getD, take, drop, set, length-set, drop-of-length-le}
 use lib.Seq.{drop-cons, take-suc-set, append-snoc, take-all}
-use Rattle.bit_rules.specs.Source.{Source, Out, got, stopped, stop, takeBit}
+use Rattle.bit_rules.specs.Source.{Out, got, stopped, stop, takeBit}
 use Rattle.bit_rules.specs.Reader.{andThen, done}
 use Rattle.bits.specs.Code.{sourceOf}
 use Rattle.bit_rules.specs.declared.Stop.{Stop}
 use Rattle.bits.specs.declared.Cursor.{Cursor}
 use Rattle.bit_rules.specs.Table.{Table}
 use Rattle.plane_rules.specs.Task.{Task, walk, atZero, pass}
-use Rattle.plane_rules.specs.AcRead.{taskAt, position, corrected, blockEnd, acBlock}
+use Rattle.plane_rules.specs.AcRead.{taskAt, position, blockEnd, acBlock}
 use Rattle.ac_tasks.specs.Code.{openOf, blockOf}
-use Rattle.ac_steps.specs.Code.{fixing, aim, aimed, inFront, At, Carries, Closes}
+use Rattle.ac_values.specs.Code.{fixing, aim, aimed}
+use Rattle.ac_values.proofs.Values.{stays, at-value, landed}
+use Rattle.ac_steps.specs.Code.{inFront, At, Carries, Closes}
 use Rattle.ac_tasks.specs.declared.Block.{Block}
 use Rattle.ac_tasks.specs.declared.Block.the-variants.{Done, Stopped}
-
--- a value that is not zero takes one correction bit
-corrects : (t : Task) (value : ℤ) (s : Source) → (value ≡ pos 0 → ⊥) → position t value s ≡ andThen (λ (b : Bool). done (corrected value b, some t)) (takeBit s)
-unfolding position
-corrects t (pos zero) s z = absurd (z refl)
-corrects t (pos (suc n)) s z = refl
-corrects t (negsuc n) s z = refl
 
 front-none : (o : Out (List ℤ × Option Task)) → inFront [] o ≡ o
 unfolding inFront
@@ -88,18 +83,6 @@ module _ {bytes : List ℕ} {T : Table} {left : ℕ} {values now : List ℤ} {o�
 
 -- ---- the same of what the code comes to from a position on
 
--- a value that is not zero: the task stays open behind it
-unfoldable stays : Task → Out ℤ → Out (ℤ × Option Task)
-stays t o = andThen {A = ℤ} {B = ℤ × Option Task} (λ (v : ℤ). done (v, some t)) o
-
-stays-fixed : (t : Task) (v : ℤ) (o : Out Bool) → andThen {A = Bool} {B = ℤ × Option Task} (λ (b : Bool). done (corrected v b, some t)) o ≡ stays t (fixing v o)
-unfolding fixing stays
-stays-fixed t v (got b s) = refl
-stays-fixed t v (stopped x) = refl
-
-at-value : (t : Task) (v : ℤ) (s : Source) (r : Out ℤ) → (v ≡ pos 0 → ⊥) → fixing v (takeBit s) ≡ r → position t v s ≡ stays t r
-at-value t v s r n e = corrects t v s n ∙ stays-fixed t v (takeBit s) ∙ ap (stays t) e
-
 pub carries-none : {bytes : List ℕ} {values before : List ℤ} {o : Option Task} {c : Cursor} {i : ℕ} → Carries bytes values before before o o c c i i
 carries-none = record { long = λ l. l; same = λ T left o₀ c₀ a. a }
 
@@ -125,10 +108,6 @@ module _ {bytes : List ℕ} {values before now : List ℤ} {o : Option Task} {t 
       carries-fixed {v} {g} e = record { long = λ l. length-set now j v ∙ k .long l; same = λ T left o₀ c₀ a. at-turn (k .same T left o₀ c₀ a) h refl (at-value t _ _ (got v (sourceOf bytes g)) n e) }
 
 -- ---- a walk
-
-landed : (leave sign : Bool) → (atZero (walk 0 (aim leave sign)) ≡ aimed leave sign) × (pass (walk 0 (aim leave sign)) ≡ none)
-landed true sign = (refl, refl)
-landed false sign = (refl, refl)
 
 module _ {bytes : List ℕ} {values before now : List ℤ} {o : Option Task} {s : Option Bool} {c d : Cursor} {i j : ℕ} where
   pub carries-past : {m : ℕ} → Carries bytes values before now o (some (walk m s)) c d i j → length values ≤ j → Closes bytes values before now o c i (Stopped (stop 16))

@@ -1,42 +1,20 @@
 -- What the code's steps through a block stand for: a task carried out from a position on.
 use mathlib.Core.Path.{_≡_}
-use mathlib.Core.Bool.{Bool, true, false}
 use mathlib.Core.List.{List, _++_}
-use mathlib.Core.Option.{Option, none, some}
+use mathlib.Core.Option.{Option, none}
 use Prim.Native.Nat.{ℕ, _≤_, _<_}
-use lib.IntN.{ℤ, pos}
+use lib.IntN.{ℤ}
 use lib.ListN.{length, take, drop}
 use Rattle.bit_rules.specs.Source.{Out, got, stopped}
-use Rattle.bit_rules.specs.Reader.{andThen, done}
 use Rattle.bits.specs.Code.{sourceOf}
 use Rattle.bits.specs.declared.Cursor.{Cursor}
 use Rattle.bit_rules.specs.Table.{Table}
-use Rattle.plane_rules.specs.Task.{Task, unit}
-use Rattle.plane_rules.specs.AcRead.{corrected, acBlock}
+use Rattle.plane_rules.specs.Task.{Task}
+use Rattle.plane_rules.specs.AcRead.{acBlock}
 use Rattle.ac_tasks.specs.Code.{blockOf}
 use Rattle.ac_tasks.specs.declared.Block.{Block}
-use Rattle.ac_steps.specs.declared.Fixed.{Fixed}
-use Rattle.ac_steps.specs.declared.Fixed.the-variants.{Now, Stopped}
 use Rattle.ac_steps.specs.declared.Step.{Step}
 use Rattle.ac_steps.specs.declared.Step.the-variants.{On, Out as Over}
-
-unfoldable pub fixedOf : List ℕ → Fixed → Out ℤ
-fixedOf bytes (Now value c) = got value (sourceOf bytes c)
-fixedOf bytes (Stopped x) = stopped x
-
--- a value corrected by the bit that was taken
-unfoldable pub fixing : ℤ → Out Bool → Out ℤ
-fixing value o = andThen (λ (b : Bool). done (corrected value b)) o
-
--- the sign that a walk sets: none where the zero is left
-abbrev pub aim : Bool → Bool → Option Bool
-aim true sign = none
-aim false sign = some sign
-
--- and what the zero becomes
-abbrev pub aimed : Bool → Bool → ℤ
-aimed true sign = pos 0
-aimed false sign = unit sign
 
 -- values in front of those of an answer
 unfoldable pub inFront : List ℤ → Out (List ℤ × Option Task) → Out (List ℤ × Option Task)

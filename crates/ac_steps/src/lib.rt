@@ -2,53 +2,23 @@
 ghost use mathlib.Core.Path.{_≡_};
 ghost use mathlib.Core.Option.{some};
 ghost use Prim.Native.Nat.{_≤_};
-ghost use lib.IntN.{natAbs};
 ghost use lib.ListN.{length};
-ghost use Rattle.bit_rules.specs.Source.{takeBit};
-ghost use Rattle.bits.specs.Code.{sourceOf};
 ghost use Rattle.planes.specs.Code.{Small};
 ghost use Rattle.plane_rules.specs.Task as task;
 ghost use Rattle.ac_tasks.specs.Code.{taskOf};
-ghost use Rattle.ac_steps.specs.Code.{fixedOf, fixing, aim, aimed, Steps};
+ghost use Rattle.ac_values.specs.Code.{aim};
+ghost use Rattle.ac_steps.specs.Code.{Steps};
 use ac_tasks::Block;
 use ac_tasks::Job;
 use ac_tasks::Open;
+use ac_values::Fixed;
 use bit_rules::Stop;
 use bits::Cursor;
-use bits::Taken;
-
-// A corrected value and the data left, or why there is no bit.
-pub enum Fixed {
-    Now(i32, Cursor),
-    Stopped(Stop),
-}
 
 // What a task comes to: it is done, and this is the next position; or the block is over.
 pub enum Step {
     On(usize, Cursor),
     Out(Block),
-}
-
-// "each value already nonzero takes one correction bit"
-fn correct(data: &[u8], value: i32, c: Cursor) -> Fixed
-    requires { ⌜ natAbs value ≤ 32768 ⌝ }
-    ensures { λ r. ⌜ fixedOf (now («data» .entry)) r ≡ fixing value (takeBit (sourceOf (now («data» .entry)) c)) ⌝ }
-{
-    let t = bits::reader::bit_at(data, c);
-    match t {
-        Taken::Bit(b, next) => Fixed::Now(ac_tasks::corrected(value, b), next),
-        Taken::Stopped(x) => Fixed::Stopped(x),
-    }
-}
-
-// What the zero behind the walk becomes.
-fn aimed(leave: bool, sign: bool) -> i32
-    ensures { λ r. ⌜ r ≡ aimed leave sign ⌝ }
-{
-    if leave {
-        return 0;
-    }
-    ac_tasks::unit(sign)
 }
 
 // A walk from a position on: corrections, so many zeros, and the zero behind them. (No task is kept from position to position: a copied enum is slow.)
@@ -74,14 +44,14 @@ fn walk(
         let v = values[i];
         if v == 0 {
             if n == 0 {
-                destination[i] = aimed(leave, sign);
+                destination[i] = ac_values::aimed(leave, sign);
                 return Step::On(i + 1, cursor);
             }
             destination[i] = 0;
             n -= 1;
             i += 1;
         } else {
-            let f = correct(data, v, cursor);
+            let f = ac_values::correct(data, v, cursor);
             match f {
                 Fixed::Stopped(x) => return Step::Out(Block::Stopped(x)),
                 Fixed::Now(w, next) => {
@@ -116,7 +86,7 @@ fn rest(
             destination[i] = 0;
             i += 1;
         } else {
-            let f = correct(data, v, cursor);
+            let f = ac_values::correct(data, v, cursor);
             match f {
                 Fixed::Stopped(x) => return Step::Out(Block::Stopped(x)),
                 Fixed::Now(w, next) => {

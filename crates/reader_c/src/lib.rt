@@ -54,7 +54,7 @@ pub extern "C" fn xt_read_dc_plane(
     ensures { λ r. ⌜ Meets (pos 0) (readDc plane blocks (now (values .entry)) (now («data» .entry)) (length (now (destination .entry))))
         (now (destination .entry)) (now (destination .exit)) (record { number = r; place = now (place .exit) }) ⌝ }
 {
-    let a = dc_planes::read_dc(plane, blocks, data, values, destination);
+    let a = dc_reader::read_dc(plane, blocks, data, values, destination);
     *place = a.place as u64;
     a.number
 }
@@ -71,7 +71,7 @@ pub extern "C" fn xt_write_dc_plane(
     ensures { λ r. ⌜ Meets 0 (writeDc plane blocks (now (values .entry)) (length (now (destination .entry))))
         (now (destination .entry)) (now (destination .exit)) (record { number = r; place = now (place .exit) }) ⌝ }
 {
-    let a = dc_planes::write_dc(plane, blocks, values, destination);
+    let a = dc_writer::write_dc(plane, blocks, values, destination);
     *place = a.place as u64;
     a.number
 }

@@ -8,7 +8,8 @@ use mir.Syntax.{w32}
 use mir.Val.{toZ, ofZ}
 use Rattle.laws.proofs.Integers.{back}
 use Rattle.plane_rules.specs.Task as task
-use Rattle.ac_steps.specs.Code.{aim, fixedOf, Carries}
+use Rattle.ac_values.specs.Code.{aim, fixedOf}
+use Rattle.ac_steps.specs.Code.{Carries}
 use Rattle.ac_steps.proofs.Positions.{carries-none, carries-landed, carries-passed, carries-stopped, carries-fixed, carries-past}
 use native.Mathlib.Omega.{arith}
 use borrow.Author.Needs.{needs}

@@ -1,2 +1,0 @@
-pub mod DcReading
-pub mod DcWriting
