@@ -1,13 +1,13 @@
--- `codes::code_table` meets its contract: so far each value has the entry of its place among the places passed. Assumes nothing.
+-- `code_entries::code_table` meets its contract: so far each value has the entry of its place among the places passed. Assumes nothing.
 use Prim.Native.Nat.{_-_}
 use lib.ListN.{length}
 use Rattle.bit_rules.specs.Table.{table}
 use Rattle.bit_rules.proofs.Tables.{good}
-use Rattle.codes.proofs.Entering.{Entering, enter-start, enter-turn, enter-end}
+use Rattle.code_entries.proofs.Entering.{Entering, enter-start, enter-turn, enter-end}
 use borrow.Author.Needs.{needs}
 use native.Mathlib.Omega.{arith}
-use Rattle.codes.proofs.code_table.Statement.{statement}
-use Rattle.codes.proofs.code_table.Tie as tie
+use Rattle.code_entries.proofs.code_table.Statement.{statement}
+use Rattle.code_entries.proofs.code_table.Tie as tie
 
 abbrev Inv-loop : tie.InvT-loop
 Inv-loop counts values entries₀ place₀ entries place = Entering (table counts values) entries place

@@ -1,12 +1,12 @@
--- `codes::code_at` meets its contract. Assumes nothing.
+-- `code_entries::code_at` meets its contract. Assumes nothing.
 use mathlib.Core.Path.{_≡_}
 use Prim.Native.Nat.{_-_}
 use lib.ListN.{length}
-use Rattle.codes.proofs.Assigning.{Assigning, assign-first, assign-small, assign-end, assigned, assign-turn}
+use Rattle.code_entries.proofs.Assigning.{Assigning, assign-first, assign-small, assign-end, assigned, assign-turn}
 use borrow.Author.Needs.{needs}
 use native.Mathlib.Omega.{arith}
-use Rattle.codes.proofs.code_at.Statement.{statement}
-use Rattle.codes.proofs.code_at.Tie as tie
+use Rattle.code_entries.proofs.code_at.Statement.{statement}
+use Rattle.code_entries.proofs.code_at.Tie as tie
 
 abbrev Inv-loop : tie.InvT-loop
 Inv-loop counts place first₀ k₀ l₀ first k l = (length counts ≡ 16) × Assigning counts place first k l

@@ -15,8 +15,8 @@ use Rattle.laws.specs.declared.Found.the-variants.{At, Nothing}
 use Rattle.bit_rules.specs.Digits.{digits}
 use Rattle.bit_rules.specs.Table.{Table, goodTable}
 use Rattle.bit_rules.specs.Write.{placeOf}
-use Rattle.codes.specs.Code.{Assigned, entryOf, Entered, Entries}
-use Rattle.codes.specs.declared.Code.{Code}
+use Rattle.code_entries.specs.Code.{Assigned, entryOf, Entered, Entries}
+use Rattle.code_entries.specs.declared.Code.{Code}
 use Rattle.bit_rules.proofs.Tables.{good}
 use Rattle.bit_rules.proofs.Places.{other, first-there}
 

@@ -12,7 +12,7 @@ use borrow.Author.Tests.{lt-ltb, le-ltb}
 pub use Rattle.bit_rules.proofs.Digits.{bin-odd}
 use Rattle.bit_rules.specs.Table.{codeCount}
 use Rattle.bit_rules.specs.Write.{codeAt}
-use Rattle.codes.specs.Code.{Assigned}
+use Rattle.code_entries.specs.Code.{Assigned}
 use Rattle.bit_rules.proofs.Tables.{total-on, total-end}
 
 pub record Assigning (counts : List ℕ) (place first k l : ℕ) : Type 0 where
