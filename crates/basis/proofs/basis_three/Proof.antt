@@ -1,4 +1,4 @@
--- `pixel::basis_three` meets its contract. Assumes nothing.
+-- `basis::basis_three` meets its contract. Assumes nothing.
 use borrow.Author.Needs.{needs}
 use mathlib.Core.Path.{_≡_, ap, _∙_}
 use mir.Syntax.{w64}
@@ -6,11 +6,11 @@ use mir.Facts.{toZ-ofZ}
 use Rattle.laws.proofs.Integers.{back}
 use native.Mathlib.Omega.{arith}
 use Rattle.merge_rules.specs.Pixels.{triple}
-use Rattle.pixel.specs.Code.{threeOf}
+use Rattle.basis.specs.Code.{threeOf}
 use Rattle.merge_rules.specs.Steps.{recolour, firstCentre, stepThree, basis}
-use Rattle.pixel.proofs.Laws.{two-steps}
-use Rattle.pixel.proofs.basis_three.Statement.{statement}
-use Rattle.pixel.proofs.basis_three.Tie as tie
+use Rattle.basis.proofs.Laws.{two-steps}
+use Rattle.basis.proofs.basis_three.Statement.{statement}
+use Rattle.basis.proofs.basis_three.Tie as tie
 
 recolour-requires : tie.Need-recolour-requires
 recolour-requires c κs =

@@ -1,4 +1,4 @@
--- `pixel::transform` meets its contract. Assumes nothing.
+-- `basis::transform` meets its contract. Assumes nothing.
 use borrow.Author.Needs.{needs}
 use mathlib.Core.Path.{_≡_, _∙_}
 use Prim.Native.Nat.{_≤_}
@@ -9,8 +9,8 @@ use mir.Val.{toZ, ofZ}
 use mir.Facts.{toZ-ofZ}
 use Rattle.laws.proofs.Integers.{back}
 use Rattle.merge_rules.specs.Steps.{transform, tints}
-use Rattle.pixel.proofs.transform.Statement.{statement}
-use Rattle.pixel.proofs.transform.Tie as tie
+use Rattle.basis.proofs.transform.Statement.{statement}
+use Rattle.basis.proofs.transform.Tie as tie
 
 -- what the three calls of `tinted` are given, read back
 module _ (c : tie.After-less2) where

@@ -1,4 +1,4 @@
--- `pixel::weighted` meets its contract. Assumes nothing.
+-- `basis::weighted` meets its contract. Assumes nothing.
 use borrow.Author.Needs.{needs}
 use mathlib.Core.Path.{_≡_, ap, _∙_}
 use Prim.Native.Nat.{_+_, _≤_}
@@ -11,8 +11,8 @@ use Rattle.laws.proofs.Integers.{back}
 use Rattle.merge_rules.specs.Near.{row}
 use Rattle.rounding.proofs.Laws.{row-small}
 use Rattle.merge_rules.specs.Steps.{weighted}
-use Rattle.pixel.proofs.weighted.Statement.{statement}
-use Rattle.pixel.proofs.weighted.Tie as tie
+use Rattle.basis.proofs.weighted.Statement.{statement}
+use Rattle.basis.proofs.weighted.Tie as tie
 
 -- what `row` is given, read back
 module _ (c : tie.After-struct-told3) where

@@ -1,4 +1,4 @@
--- `pixel::basis_one` meets its contract. Assumes nothing.
+-- `basis::basis_one` meets its contract. Assumes nothing.
 use borrow.Author.Needs.{needs}
 use mathlib.Core.Path.{_≡_, sym, ap, _∙_}
 use mir.Syntax.{w64}
@@ -8,9 +8,9 @@ use lib.IntN.{ℤ}
 use Rattle.merge_rules.specs.Near.{clip, top}
 use Rattle.merge_rules.specs.Curves.{curved}
 use Rattle.merge_rules.specs.Pixels.{single}
-use Rattle.pixel.proofs.Laws.{basis-single}
-use Rattle.pixel.proofs.basis_one.Statement.{statement}
-use Rattle.pixel.proofs.basis_one.Tie as tie
+use Rattle.basis.proofs.Laws.{basis-single}
+use Rattle.basis.proofs.basis_one.Statement.{statement}
+use Rattle.basis.proofs.basis_one.Tie as tie
 
 returns : tie.Need-returns
 returns c =

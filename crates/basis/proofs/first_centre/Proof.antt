@@ -1,9 +1,9 @@
--- `pixel::first_centre` meets its contract. Assumes nothing.
+-- `basis::first_centre` meets its contract. Assumes nothing.
 use mathlib.Core.Path.{refl}
 use native.Mathlib.Omega.{arith}
 use Rattle.merge_rules.specs.Steps.{firstCentre}
-use Rattle.pixel.proofs.first_centre.Statement.{statement}
-use Rattle.pixel.proofs.first_centre.Tie as tie
+use Rattle.basis.proofs.first_centre.Statement.{statement}
+use Rattle.basis.proofs.first_centre.Tie as tie
 
 returns : tie.Need-returns
 unfolding firstCentre

@@ -1,4 +1,4 @@
--- `pixel::toned` meets its contract. Assumes nothing.
+-- `basis::toned` meets its contract. Assumes nothing.
 use borrow.Author.Needs.{needs}
 use mathlib.Core.Path.{_≡_, _∙_, ap}
 use native.Mathlib.Omega.{arith}
@@ -8,8 +8,8 @@ use Rattle.laws.proofs.Integers.{back}
 use Rattle.merge_rules.specs.Near.{clip, top}
 use Rattle.rounding.proofs.Laws.{clip-small}
 use Rattle.merge_rules.specs.Curves.{curved}
-use Rattle.pixel.proofs.toned.Statement.{statement}
-use Rattle.pixel.proofs.toned.Tie as tie
+use Rattle.basis.proofs.toned.Statement.{statement}
+use Rattle.basis.proofs.toned.Tie as tie
 
 is-clip : (c : tie.After-clip) → c .clip .result ≡ clip (c .before .before .before .args .v) (top (c .before .before .before .args .rh))
 is-clip c =

@@ -1,11 +1,11 @@
--- `pixel::recolour` meets its contract. Assumes nothing.
+-- `basis::recolour` meets its contract. Assumes nothing.
 use borrow.Author.Needs.{needs}
 use mathlib.Core.Path.{_∙_}
 use native.Mathlib.Omega.{arith}
 use mir.Facts.{toZ-ofZ}
 use Rattle.merge_rules.specs.Steps.{recolour}
-use Rattle.pixel.proofs.recolour.Statement.{statement}
-use Rattle.pixel.proofs.recolour.Tie as tie
+use Rattle.basis.proofs.recolour.Statement.{statement}
+use Rattle.basis.proofs.recolour.Tie as tie
 
 returns : tie.Need-returns
 unfolding recolour

@@ -1,11 +1,11 @@
--- `pixel::matrixed` meets its contract. Assumes nothing.
+-- `basis::matrixed` meets its contract. Assumes nothing.
 use borrow.Author.Needs.{needs}
 use native.Mathlib.Omega.{arith}
 use mir.Syntax.{w64}
 use Rattle.laws.proofs.Integers.{back}
 use Rattle.merge_rules.specs.Steps.{matrixed, stepThree}
-use Rattle.pixel.proofs.matrixed.Statement.{statement}
-use Rattle.pixel.proofs.matrixed.Tie as tie
+use Rattle.basis.proofs.matrixed.Statement.{statement}
+use Rattle.basis.proofs.matrixed.Tie as tie
 
 returns : tie.Need-returns
 unfolding matrixed stepThree

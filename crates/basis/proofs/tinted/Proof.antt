@@ -1,4 +1,4 @@
--- `pixel::tinted` meets its contract. Assumes nothing.
+-- `basis::tinted` meets its contract. Assumes nothing.
 use borrow.Author.Needs.{needs}
 use mathlib.Core.Path.{_∙_}
 use native.Mathlib.Omega.{arith}
@@ -7,8 +7,8 @@ use mir.Facts.{toZ-ofZ}
 use Rattle.laws.proofs.Integers.{back}
 use Rattle.merge_rules.specs.Near.{row}
 use Rattle.merge_rules.specs.Steps.{tinted}
-use Rattle.pixel.proofs.tinted.Statement.{statement}
-use Rattle.pixel.proofs.tinted.Tie as tie
+use Rattle.basis.proofs.tinted.Statement.{statement}
+use Rattle.basis.proofs.tinted.Tie as tie
 
 whole-requires : tie.Need-whole-requires
 whole-requires c κs = rw (back w64 (c .row .result) (c .row .ok)) (omega (arith, c .row .ensures .1))
