@@ -1,15 +1,14 @@
 -- From what the passes find to the verdict, case by case. Assumes nothing.
 use Prim.Native.Nat.{ℕ, _≤_, _<_}
-use mathlib.Core.Path.{_≡_, refl, ap, sym, subst, _∙_}
+use mathlib.Core.Path.{_≡_, refl, ap, sym, _∙_}
 use mathlib.Core.List.{List, []}
-use mathlib.Core.Bool.{Bool, true, false}
+use mathlib.Core.Bool.{true, false}
 use native.Mathlib.Omega.{arith}
 use lib.ListN.{length}
 use borrow.Author.Tests.{eq-eqb, ne-eqb, le-leb, lt-leb}
 use Rattle.laws.specs.declared.Found.{Found}
 use Rattle.laws.specs.declared.Found.the-variants.{At, Nothing}
-use Rattle.answers.specs.Verdict.{Verdict, given, refused, refusal, Tried}
-use Rattle.answers.proofs.Laws.{tried-given}
+use Rattle.answers.specs.Verdict.{given, refused, refusal}
 use Rattle.answers.specs.declared.Refusal.{Refusal}
 use Rattle.answers.specs.declared.Outcome.the-variants.{Given, Refused}
 use Rattle.box_rules.specs.declared.Head.{Head}
@@ -21,16 +20,10 @@ use Rattle.box_rules.specs.Numbers.{numbers, numbersFrom, firstTwice, missingFr
 use Rattle.box_rules.proofs.Smallest.{pigeonhole}
 use Rattle.scans.specs.declared.Fault.the-variants.{Fine, Twice, Missing}
 use Rattle.box_rules.specs.Box.{agree, contents, total, joined, assembled, assemble, boxBytes}
-use Rattle.box_rules.specs.Order.{payloads}
 use Rattle.scans.specs.Code.{inOrder, mineOf, faultOf}
-use Rattle.copies.specs.Code.{Numbered, putAt}
-use Rattle.boxes.specs.Code.{Whole, ReadyIs}
-use Rattle.boxes.specs.declared.Ready.{Ready}
-use Rattle.boxes.specs.declared.Ready.the-variants.{Not, Yes}
 use Rattle.box_rules.proofs.Order.{numbers-length, fine-total}
 use Rattle.scans.proofs.Faults.{fault-fine, fault-twice, fault-missing, told-fine, told-twice, told-missing}
-use Rattle.scans.proofs.InOrder.{order-twice, order-missing, order-joined}
-use Rattle.copies.proofs.Puts.{put-front}
+use Rattle.scans.proofs.InOrder.{order-twice, order-missing}
 
 -- ---- what is wrong with the numbers: the code's searches, by a walk of the file
 
@@ -117,31 +110,3 @@ module _ (file : List ℕ) (kind instance room : ℕ) where
       → boxBytes file kind instance room ≡ assembled room head (mineOf file kind instance)
   unfolding assemble
   file-some e m = file-packets e ∙ rw (m .list)
-
--- ---- what is handed out
-
-module _ {ps : List Packet} {room : ℕ} {v : Verdict ℕ} {n sum : ℕ} {ordered : Bool} (w : Whole ps room v n sum ordered) where
-  bytes-room : length (joined ps) ≤ room
-  bytes-room = omega (arith, w .size, w .fits)
-
-  pub number-room : Numbered ps n room
-  number-room = record { many = w .many; once = w .once; fits = bytes-room }
-
-  pub put-tried : (d after : List ℕ) → after ≡ putAt d 0 (joined ps) → Tried 0 v d after (Given sum)
-  put-tried d after e = tried-given (ap Given (sym (w .size))) (w .says) (e ∙ put-front d (joined ps))
-
-  ordered-bytes : ordered ≡ true → joined ps ≡ payloads ps
-  ordered-bytes e = order-joined ps (sym (w .order) ∙ e)
-
-  pub order-room : ordered ≡ true → length (payloads ps) ≤ room
-  order-room e = omega (arith, ap length (ordered-bytes e), bytes-room)
-
-  pub order-tried : ordered ≡ true → (d after : List ℕ) → after ≡ putAt d 0 (payloads ps) → Tried 0 v d after (Given sum)
-  order-tried o d after e = put-tried d after (e ∙ ap (putAt d 0) (sym (ordered-bytes o)))
-
-pub ready-yes : (ps : List Packet) (room : ℕ) (v : Verdict ℕ) {r : Ready} {n sum : ℕ} {ordered : Bool} → ReadyIs ps room v r → r ≡ Yes n sum ordered
-    → Whole ps room v n sum ordered
-ready-yes ps room v h e = subst (ReadyIs ps room v) e h
-
-pub ready-not : (ps : List Packet) (room : ℕ) (v : Verdict ℕ) {r : Ready} {f : Refusal} → ReadyIs ps room v r → r ≡ Not f → v ≡ refused f
-ready-not ps room v h e = subst (ReadyIs ps room v) e h

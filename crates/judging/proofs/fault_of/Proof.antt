@@ -1,10 +1,10 @@
--- `boxes::fault_of` meets its contract.
+-- `judging::fault_of` meets its contract.
 use Rattle.scans.proofs.InOrder.{rises-twice}
-use Rattle.boxes.proofs.Answers.{ordered-fine, searched-fine, searched-twice, searched-once, searched-missing}
+use Rattle.judging.proofs.Answers.{ordered-fine, searched-fine, searched-twice, searched-once, searched-missing}
 use mathlib.Core.Path.{sym, _∙_}
 use borrow.Author.Needs.{needs}
-use Rattle.boxes.proofs.fault_of.Statement.{statement}
-use Rattle.boxes.proofs.fault_of.Tie as tie
+use Rattle.judging.proofs.fault_of.Statement.{statement}
+use Rattle.judging.proofs.fault_of.Tie as tie
 
 returns : tie.Need-returns
 returns c = ordered-fine _ _ _ (sym (c .before .before .pre .orders) ∙ c .if1 .taken)

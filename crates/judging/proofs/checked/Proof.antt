@@ -1,11 +1,11 @@
--- `boxes::checked` meets its contract.
+-- `judging::checked` meets its contract.
 use native.Mathlib.Omega.{arith}
-use Rattle.boxes.proofs.Answers.{answer-5, answer-6, answer-7, answer-8, answer-size, answer-9, answer-0}
+use Rattle.judging.proofs.Answers.{answer-5, answer-6, answer-7, answer-8, answer-size, answer-9, answer-0}
 use borrow.Author.Tests.{not-true, not-false}
 use mathlib.Core.Path.{sym, _∙_}
 use borrow.Author.Needs.{needs}
-use Rattle.boxes.proofs.checked.Statement.{statement}
-use Rattle.boxes.proofs.checked.Tie as tie
+use Rattle.judging.proofs.checked.Statement.{statement}
+use Rattle.judging.proofs.checked.Tie as tie
 
 returns : tie.Need-returns
 returns c = rw (c .not .ensures) (answer-5 _ _ _ (sym (c .before .before .before .before .pre .agrees) ∙ not-true _ (c .before .if1 .taken)))

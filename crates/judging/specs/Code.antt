@@ -10,8 +10,8 @@ use Rattle.box_rules.specs.Numbers.{numbers}
 use Rattle.box_rules.specs.Box.{joined}
 use Rattle.scans.specs.declared.Fault.the-variants.{Fine}
 use Rattle.scans.specs.Code.{inOrder, faultOf}
-use Rattle.boxes.specs.declared.Ready.{Ready}
-use Rattle.boxes.specs.declared.Ready.the-variants.{Not, Yes}
+use Rattle.judging.specs.declared.Ready.{Ready}
+use Rattle.judging.specs.declared.Ready.the-variants.{Not, Yes}
 
 -- the bytes can be handed out: how many packets, how many bytes, and whether they stand in order
 pub record Whole (ps : List Packet) (room : ℕ) (v : Verdict ℕ) (n sum : ℕ) (ordered : Bool) : Type 0 where

@@ -1,8 +1,8 @@
--- `boxes::contents` meets its contract.
+-- `judging::contents` meets its contract.
 use Rattle.box_rules.specs.Box.{contents}
 use native.Mathlib.Omega.{arith}
-use Rattle.boxes.proofs.contents.Statement.{statement}
-use Rattle.boxes.proofs.contents.Tie as tie
+use Rattle.judging.proofs.contents.Statement.{statement}
+use Rattle.judging.proofs.contents.Tie as tie
 
 returns : tie.Need-returns
 unfolding contents

@@ -1,14 +1,14 @@
--- `boxes::judged` meets its contract: the walk behind the last packet ends as the whole walk.
+-- `judging::judged` meets its contract: the walk behind the last packet ends as the whole walk.
 use Prim.Native.Nat.{ℕ}
 use Rattle.answers.specs.Verdict.{Verdict}
 use Rattle.scans.specs.Code.{mineOf}
-use Rattle.boxes.specs.Code.{ReadyIs}
-use Rattle.boxes.proofs.Answers.{file-refused, file-none, file-some}
+use Rattle.judging.specs.Code.{ReadyIs}
+use Rattle.judging.proofs.Answers.{file-refused, file-none, file-some}
 use Rattle.packets.proofs.Meeting.{met, gone}
 use mathlib.Core.Path.{sym, subst, _∙_}
 use borrow.Author.Needs.{needs}
-use Rattle.boxes.proofs.judged.Statement.{statement}
-use Rattle.boxes.proofs.judged.Tie as tie
+use Rattle.judging.proofs.judged.Statement.{statement}
+use Rattle.judging.proofs.judged.Tie as tie
 
 checked-requires : tie.Need-checked-requires
 checked-requires c κs = c .before .before .before .scan-all .ensures .0
