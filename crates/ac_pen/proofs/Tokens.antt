@@ -13,7 +13,7 @@ use Rattle.bit_rules.specs.Digits.{digits}
 use Rattle.bit_putter.proofs.Putting.{puts-none, puts-then, Going, going-start, going-turn, going-end}
 use Rattle.bit_rules.specs.Table.{Table}
 use Rattle.bit_rules.specs.Write.{placeOf, codeOf, word}
-use Rattle.codes.specs.Code.{absent, Entered}
+use Rattle.code_entries.specs.Code.{absent, Entered}
 use Rattle.plane_rules.specs.Task.{ended}
 use Rattle.plane_rules.specs.AcWrite.{Token, code, raw, class, emit, orElse, lacking, spelled}
 use Rattle.ac_tasks.specs.declared.Job.{Job}

@@ -7,7 +7,7 @@ use Rattle.laws.specs.declared.Found.{Found}
 use Rattle.laws.specs.declared.Found.the-variants.{At, Nothing}
 use Rattle.bit_putter.specs.Code.{Sound, Puts}
 use Rattle.bit_rules.specs.Table.{Table, goodTable}
-use Rattle.codes.specs.Code.{Entries}
+use Rattle.code_entries.specs.Code.{Entries}
 use Rattle.plane_rules.specs.AcWrite.{Token, lacking, spelled}
 use Rattle.ac_pen.specs.declared.Pen.{Pen}
 

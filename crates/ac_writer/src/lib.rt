@@ -243,7 +243,7 @@ fn put_blocks(
         pen,
         task: Open::Nothing,
     };
-    let entries = codes::code_table(counts, codes);
+    let entries = code_entries::code_table(counts, codes);
     let mut n = 0;
     while n < blocks {
         let at = 63 * n;

@@ -1,4 +1,4 @@
-// Code tables of T.81, Annex C: validity, reading a code, the code of a value (docs/RULES.md, K1 to K6).
+// Code tables of T.81, Annex C: validity, reading a code (docs/RULES.md, K1, K2, K4 to K6).
 ghost use mathlib.Core.Path.{_≡_};
 ghost use mathlib.Core.Bool.{true};
 ghost use Prim.Native.Nat.{_<_};
@@ -6,7 +6,7 @@ ghost use lib.ListN.{length, drop};
 ghost use Rattle.bits.specs.Code.{sourceOf};
 ghost use Rattle.bit_rules.specs.Table.{table, codeCount, kraft, holds, distinct, goodTable};
 ghost use Rattle.bit_rules.specs.Read.{takeCode};
-ghost use Rattle.codes.specs.Code.{codedOf, Assigned, Entries};
+ghost use Rattle.codes.specs.Code.{codedOf};
 use bit_rules::Stop;
 use bits::Cursor;
 use bits::Taken;
@@ -15,12 +15,6 @@ use bits::Taken;
 pub enum Coded {
     Value(u8, Cursor),
     Stopped(Stop),
-}
-
-// A code: its length in bits, and the number that they make.
-pub struct Code {
-    pub size: usize,
-    pub number: u32,
 }
 
 fn wide(x: u8) -> usize
@@ -135,43 +129,4 @@ pub fn take_code(counts: &[u8], values: &[u8], data: &[u8], c: Cursor) -> Coded
         l += 1;
     }
     Coded::Stopped(Stop { number: 14 })
-}
-
-// The code of the value at a place.
-fn code_at(counts: &[u8], place: usize) -> Code
-    requires { ⌜ (length (now counts) ≡ 16) × (place < codeCount (now counts)) × (place < 256) ⌝ }
-    ensures { λ r. ⌜ Assigned (now (counts .entry)) place r ⌝ }
-{
-    let mut first: usize = 0;
-    let mut k = place;
-    let mut l = 0;
-    while l < counts.len() {
-        let n = wide(counts[l]);
-        if k < n {
-            return Code {
-                size: l + 1,
-                number: (first + k) as u32,
-            };
-        }
-        first = 2 * (first + n);
-        k -= n;
-        l += 1;
-    }
-    Code { size: 0, number: 0 }
-}
-
-// The entries of all values, made once a call: the writer looks each code up.
-pub fn code_table(counts: &[u8], values: &[u8]) -> [u32; 256]
-    requires { ⌜ goodTable (table (now counts) (now values)) ≡ true ⌝ }
-    ensures { λ r. ⌜ Entries (table (now (counts .entry)) (now (values .entry))) r ⌝ }
-{
-    let mut entries = [0; 256];
-    let mut place = 0;
-    while place < values.len() {
-        let code = code_at(counts, place);
-        let v = wide(values[place]);
-        entries[v] = 32 * code.number + (code.size as u32);
-        place += 1;
-    }
-    entries
 }

@@ -14,7 +14,7 @@ use Rattle.merge_rules.specs.Curves.{curved, entries}
 use Rattle.curves.specs.Code.{Tones}
 use Rattle.merge_rules.specs.declared.Setting.{Setting}
 use Rattle.merge_rules.specs.Steps.{byCurve}
-use Rattle.pixel.proofs.Tones.{merged-alike}
+use Rattle.basis.proofs.Tones.{merged-alike}
 use Rattle.settings.specs.Code.{Passed, Lending}
 use Rattle.settings.proofs.Laws.{lending}
 use Rattle.merge_rules.specs.Picture.{pixelAt, mergedAt, mergedPicture, planes}

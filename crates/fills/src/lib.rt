@@ -23,7 +23,7 @@ fn one_at(
     requires { ⌜ (s .components ≡ 1) × (p < pixels) ⌝ }
     ensures { λ r. ⌜ single r ≡ mergedAt s pixels (now (base .entry)) (now (residual .entry)) (now (table .entry)) p ⌝ }
 {
-    let b = pixel::basis_one(s, table, base[p]);
+    let b = basis::basis_one(s, table, base[p]);
     let lent = s.residual;
     match lent {
         merge_rules::Residual::Absent => pixel::alone(s.rb, b),
@@ -50,7 +50,7 @@ fn three_at(
 {
     let q = pixels + p;
     let w = pixels + pixels + p;
-    let b = pixel::basis_three(s, table, base[p], base[q], base[w]);
+    let b = basis::basis_three(s, table, base[p], base[q], base[w]);
     let lent = s.residual;
     match lent {
         merge_rules::Residual::Absent => pixel::alone_three(s.rb, b),
@@ -169,7 +169,7 @@ fn fill_straight(
     let mut tones = [0u16; 4096];
     curves::make_tones(s.rb, s.rh, &mut tones);
     fill_by(
-        pixel::by_table(s),
+        basis::by_table(s),
         pixels,
         base,
         residual,

@@ -1,21 +1,16 @@
--- The scaling of step 4 as it is computed, and the steps over a single number. Assumes nothing.
-use mathlib.Core.Path.{_≡_, refl, sym, ap, _∙_}
-use mathlib.Core.List.{List}
+-- The scaling of step 4 as it is computed, step 4 over a single number, and the sum of step 5. Assumes nothing.
+use mathlib.Core.Path.{_≡_, sym, ap, _∙_}
 use Prim.Native.Nat.{ℕ, _+_, _-_, _*_, _^_, _≤_}
 use native.Mathlib.Omega.{arith}
 use lib.Pow.{pow-pos, pow-mono, pow-add}
 use lib.IntN.{ℤ, pos, negℤ, natAbs, _+ℤ_, _-ℤ_, _*ℤ_}
 use Rattle.laws.proofs.Integers.{abs-prod-le, abs-sum, abs-neg, *ℤ-assoc}
-use Rattle.merge_rules.specs.Near.{nearest, clip, top}
+use Rattle.merge_rules.specs.Near.{nearest}
 use Rattle.rounding.proofs.Laws.{nearest-scale, nearest-within}
-use Rattle.merge_rules.specs.Curves.{curved}
 use Rattle.merge_rules.specs.declared.Setting.{Setting}
-use Rattle.merge_rules.specs.declared.Colour.{Colour}
-use Rattle.merge_rules.specs.declared.Colour.the-variants.{Identity, Transform}
-use Rattle.merge_rules.specs.declared.Matrix.{Matrix}
-use Rattle.merge_rules.specs.declared.Matrix.the-variants.{None, On}
-use Rattle.merge_rules.specs.Pixels.{Pixel, single, triple, each}
-use Rattle.merge_rules.specs.Steps.{transform, recolour, firstCentre, stepOne, stepTwo, matrixed, stepThree, scaled, stepFour, basis}
+use Rattle.merge_rules.specs.Pixels.{single, each}
+use Rattle.merge_rules.specs.Steps.{scaled, stepFour}
+use Rattle.basis.proofs.Laws.{recolour-single}
 
 -- ---- step 4's scaling, by sixteenths
 
@@ -57,28 +52,6 @@ difference-below a c h g = omega (arith, abs-sum a (negℤ c), abs-neg c)
 
 -- ---- over a single number
 
-recolour-single : (how : Colour) (centre y : ℤ) → recolour how centre (single y) ≡ single y
-unfolding recolour transform
-recolour-single Identity centre y = refl
-recolour-single Transform centre y = refl
-
-matrixed-single : (m : Matrix) (ws : List ℤ) (a : ℤ) → matrixed m ws (single a) ≡ single a
-unfolding matrixed
-matrixed-single None ws a = refl
-matrixed-single On ws a = refl
-
-pub basis-single : (s : Setting) (table : List ℕ) (y : ℤ) → basis s table (single y) ≡ single (curved (s .curve) (s .rb) (s .rh) table (clip y (top (s .rh))))
-unfolding basis stepOne stepTwo stepThree each
-basis-single s table y = rw (recolour-single (s .«base_transform») (firstCentre (s .rh)) y) (matrixed-single (s .matrix) (s .weights) _)
-
 pub four-single : (s : Setting) (r : ℤ) → stepFour s (single r) ≡ single (scaled (s .rb) (s .rr) r)
 unfolding stepFour each
 four-single s r = recolour-single (s .«residual_transform») (pos (2 ^ (7 + s .rb))) (scaled (s .rb) (s .rr) r)
-
--- ---- steps 1 and 2 over three numbers
-
-pub two-steps : (s : Setting) (table : List ℕ) (p : Pixel ℤ) (a b c : ℤ) → triple a b c ≡ recolour (s .«base_transform») (firstCentre (s .rh)) p
-    → triple (curved (s .curve) (s .rb) (s .rh) table (clip a (top (s .rh)))) (curved (s .curve) (s .rb) (s .rh) table (clip b (top (s .rh)))) (curved (s .curve) (s .rb) (s .rh) table (clip c (top (s .rh))))
-    ≡ stepTwo s table (stepOne s p)
-unfolding stepOne stepTwo each
-two-steps s table p a b c e = rw (← e)

@@ -9,7 +9,7 @@ use Rattle.merge_rules.specs.declared.Curve.the-variants.{Srgb}
 use Rattle.merge_rules.specs.Curves.{entries}
 use Rattle.merge_rules.specs.declared.Setting.{Setting}
 use Rattle.merge_rules.specs.declared.Residual.the-variants.{Present}
-use Rattle.pixel.specs.Code.{Ready}
+use Rattle.basis.specs.Code.{Ready}
 use Rattle.merge_rules.specs.Settings.{oneOrThree, plain, samples}
 
 -- the ranges of 20

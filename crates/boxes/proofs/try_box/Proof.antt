@@ -1,6 +1,6 @@
 -- `boxes::try_box` meets its contract: nothing is written before all is judged.
 use Rattle.answers.proofs.Laws.{tried-refused}
-use Rattle.boxes.proofs.Answers.{number-room, put-tried, order-room, order-tried, ready-yes, ready-not}
+use Rattle.boxes.proofs.Handing.{number-room, put-tried, order-room, order-tried, ready-yes, ready-not}
 use mathlib.Core.Path.{refl}
 use borrow.Author.Needs.{needs}
 use Rattle.boxes.proofs.try_box.Statement.{statement}

@@ -8,7 +8,7 @@ use lib.ListN.{getD}
 use mir.Syntax.{w32}
 use Rattle.laws.proofs.Integers.{back}
 use Rattle.merge_rules.specs.Pixels.{Pixel, triple}
-use Rattle.pixel.specs.Code.{threeOf}
+use Rattle.basis.specs.Code.{threeOf}
 use Rattle.merge_rules.specs.Steps.{basis, stepFour}
 use Rattle.fills.proofs.Laws.{in-first, in-second, in-third, three-alone, three-added}
 use Rattle.fills.proofs.three_at.Statement.{statement}
