@@ -2,8 +2,5 @@ pub mod Digits
 pub mod BitCases
 pub mod CodeCases
 pub mod Tables
-pub mod Words
 pub mod Places
 pub mod Took
-pub mod Trip
-pub mod CodeTrip

@@ -19,7 +19,7 @@ use Rattle.bit_rules.specs.Table.{Table, table, codeCount, kraft, holds, distin
 use Rattle.bit_rules.specs.Write.{placeOf}
 use Rattle.plane_rules.specs.Task.{Task, walk, ended}
 use Rattle.plane_rules.specs.AcWrite.{Kind, keep, still, fresh, ahead, quiet, planned, plan, Token, code, raw, class, emit, choose, tell, mark, after, writeBlock, writeBlocks, tokens, orElse, lacking}
-use Rattle.plane_rules.proofs.AcTokens.{order-most}
+use Rattle.trips.proofs.AcTokens.{order-most}
 
 abbrev pub everyCode : Table
 everyCode =

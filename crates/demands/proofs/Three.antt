@@ -10,8 +10,8 @@ use Rattle.plane_rules.specs.Dc.{dcBytes}
 use Rattle.plane_rules.specs.AcWrite.{acBytes}
 use Rattle.plane_rules.specs.Levels.{downward, towardZero}
 use Rattle.plane_rules.proofs.Levels.{level-full, level-inside, climbed}
-use Rattle.plane_rules.proofs.DcTrip.{dc-halving, dc-written, dc-read}
-use Rattle.plane_rules.proofs.AcTrip.{ac-halving, ac-written, ac-read}
+use Rattle.trips.proofs.DcTrip.{dc-halving, dc-written, dc-read}
+use Rattle.trips.proofs.AcTrip.{ac-halving, ac-written, ac-read}
 use Rattle.demands.specs.Three.{Both, Within, levelOf, Provided, Enough, writePlane, readPlane, Refined, DemandThree, CanBeMet}
 use Rattle.demands.proofs.Held.{everyCode, every-good, every-held}
 

@@ -1,13 +1,7 @@
 pub mod ReadCases
-pub mod AcTrip
 pub mod WriteCases
-pub mod AcTokens
 pub mod Levels
-pub mod Closing
 pub mod Ranges
 pub mod Halves
 pub mod DcBlocks
-pub mod DcTrip
 pub mod Cases
-pub mod ReadingCases
-pub mod WritingCases

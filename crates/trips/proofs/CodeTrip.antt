@@ -12,15 +12,15 @@ use lib.Seq.{getD-drop}
 use borrow.Author.Tests.{ltb-true, ltb-false, lt-ltb, le-ltb, eqb-true, not-false}
 use Rattle.laws.specs.declared.Found.the-variants.{At}
 use Rattle.laws.proofs.First.{first-at}
 use Rattle.bit_rules.specs.Digits.{bin, odd, digits}
 use Rattle.bit_rules.specs.Source.{Source, source, got}
 use Rattle.bit_rules.specs.Gives.{Gives}
-use Rattle.bit_rules.proofs.Trip.{in-hand, gives-split}
+use Rattle.trips.proofs.Trip.{in-hand, gives-split}
 pub use Rattle.bit_rules.proofs.Digits.{bin-odd}
 use Rattle.bit_rules.specs.Table.{Table, codeCount, kraft, goodTable}
 use Rattle.bit_rules.specs.Read.{codeFrom, takeCode}
 use Rattle.bit_rules.specs.Write.{placeOf, codeAt, word}
 use Rattle.bit_rules.proofs.Tables.{good}
 
 pub halve : (N m : ℕ) → N / 2 ^ suc m ≡ N / 2 ^ m / 2
 halve N m = rw (pow-suc 2 m) (sym (div-div-eq-div-mul N (2 ^ m) 2))

@@ -17,17 +17,17 @@ use Rattle.answers.proofs.Given.{need-given, unless-given, fitting-given-same, 
 use Rattle.levels.specs.Level.{inLevel, isDc, firstOutside}
 use Rattle.levels.specs.declared.Part.the-variants.{Ac}
 use Rattle.bit_rules.specs.Source.{Source, start}
-use Rattle.bit_rules.proofs.Trip.{bytes-say, padding-left}
+use Rattle.trips.proofs.Trip.{bytes-say, padding-left}
 use Rattle.bit_rules.specs.Table.{Table, goodTable}
-use Rattle.bit_rules.proofs.CodeTrip.{halve}
+use Rattle.trips.proofs.CodeTrip.{halve}
 use Rattle.plane_rules.specs.Plane.{readable, writable, read, closed}
 use Rattle.plane_rules.specs.AcRead.{cut, acBlocks, readAc}
 use Rattle.plane_rules.specs.AcWrite.{acHalf, Token, tokens, lacking, spelled, acBytes, writeAc}
 use Rattle.plane_rules.specs.Levels.{towardZero, atLevel}
 use Rattle.plane_rules.proofs.Ranges.{ranged, in-range, may-write, may-read}
-use Rattle.plane_rules.proofs.Closing.{closed-well}
+use Rattle.trips.proofs.Closing.{closed-well}
 use Rattle.plane_rules.proofs.Levels.{half-in, Halving, halves-inside, level-full, level-half, level-inside}
-use Rattle.plane_rules.proofs.AcTokens.{spelled-gives, joined, blocks-back}
+use Rattle.trips.proofs.AcTokens.{spelled-gives, joined, blocks-back}
 
 -- ---- one plane
 

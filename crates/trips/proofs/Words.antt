@@ -9,21 +9,21 @@ use lib.Dec.{ltb}
 use lib.ListN.{length, getD, drop}
 use lib.Seq.{getD-drop}
 use borrow.Author.Tests.{ltb-true, ltb-false, lt-ltb, le-ltb}
 use Rattle.bit_rules.specs.Digits.{bin, digits}
 use Rattle.bit_rules.specs.Source.{Source, Out, got, stopped, stop, takeBit}
 use Rattle.bit_rules.specs.declared.Stop.{Stop}
 use Rattle.bit_rules.specs.Reader.{andThen, done}
 use Rattle.bit_rules.specs.Gives.{Gives}
 use Rattle.bit_rules.proofs.Took.{Took, took}
-use Rattle.bit_rules.proofs.Trip.{gives-split, odd-bin}
+use Rattle.trips.proofs.Trip.{gives-split, odd-bin}
 use Rattle.bit_rules.proofs.Digits.{digits-length, bin-small}
 use Rattle.bit_rules.specs.Table.{Table, codeCount, goodTable}
 use Rattle.bit_rules.specs.Read.{codeFrom, takeCode}
 use Rattle.bit_rules.specs.Write.{codeAt, word}
 use Rattle.bit_rules.specs.Words.{Has, NoWord, ReadByWords}
 use Rattle.bit_rules.proofs.Tables.{good}
-use Rattle.bit_rules.proofs.CodeTrip.{Coded, halve, code-trip}
+use Rattle.trips.proofs.CodeTrip.{Coded, halve, code-trip}
 use Rattle.bit_rules.proofs.Places.{place-at}
 
 -- a value is no stop
 no-stop : {A : Type 0} {a : A} {t : Source} {x : Stop} → _≡_ {A = Out A} (got a t) (stopped x) → ⊥

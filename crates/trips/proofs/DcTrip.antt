@@ -18,15 +18,15 @@ use Rattle.levels.specs.declared.Part.the-variants.{Dc}
 use Rattle.bit_rules.specs.Digits.{bin, odd}
 use Rattle.bit_rules.specs.Source.{Source, start}
 use Rattle.bit_rules.specs.Gives.{Gives}
-use Rattle.bit_rules.proofs.Trip.{bytes-say, padding-left}
-use Rattle.bit_rules.proofs.CodeTrip.{bin-odd, halve}
+use Rattle.trips.proofs.Trip.{bytes-say, padding-left}
+use Rattle.trips.proofs.CodeTrip.{bin-odd, halve}
 use Rattle.plane_rules.specs.Plane.{readable, writable, read, onto, closed}
 use Rattle.plane_rules.specs.Dc.{newDc, dcBlocks, readDc, dcHalf, dcBit, dcBytes, writeDc}
 use Rattle.plane_rules.specs.Levels.{downward, atLevel, accepted, climb}
 use Rattle.plane_rules.proofs.Ranges.{ranged, in-range, may-write, may-read}
 use Rattle.plane_rules.proofs.Halves.{bit-up, bit-down}
-use Rattle.plane_rules.proofs.Closing.{closed-well}
+use Rattle.trips.proofs.Closing.{closed-well}
 use Rattle.plane_rules.proofs.Levels.{half-in, Halving, halves-inside, level-full, level-half, level-inside, climbed}
 
 -- ---- one value
 

@@ -1,0 +1,2 @@
+pub mod ReadingCases
+pub mod WritingCases

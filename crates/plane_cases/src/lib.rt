@@ -1,0 +1,1 @@
+// Readings and writings of AC planes by computation. No function.
