@@ -3,13 +3,14 @@ use Prim.Native.Nat.{ℕ}
 use mathlib.Core.Path.{_≡_, refl}
 use mathlib.Core.List.{List, [], _∷_}
 use mathlib.Core.Bool.{true, false}
+use native.Mathlib.Omega.{arith}
 use Rattle.answers.specs.Verdict.{Verdict, given, refused, refusal}
 use Rattle.box_rules.specs.declared.Head.{Head}
 use Rattle.box_rules.specs.Packets.{Packet, packetsIn, packets, isMine, mine}
 use Rattle.box_rules.specs.Walk.{be16, be32, headAt, ones, barred, tagged, packetAt, wholeAt, sizedAt, markedAt, stepAt, stepsIn, stepsFrom, begins, walk, ending}
 use Rattle.box_rules.specs.Numbers.{numbers, count, least, firstTwice, missingFrom, firstMissing}
 use Rattle.box_rules.specs.Box.{alike, agree, contents, total, numbered, joinedFrom, joined, assembled, assemble, boxBytes}
-use Rattle.box_rules.specs.Order.{counting, payloads}
+use Rattle.box_rules.specs.Order.{swap, counting, payloads, Makes, HandedOut}
 
 -- a packet of LPTS, 1 in a segment of a length, with a number, an LBox, and its payload in front of what follows
 abbrev packet : ℕ → ℕ → ℕ → List ℕ → List ℕ
@@ -87,3 +88,12 @@ pub words : (alike (stating 11 8) (stating 11 8) ≡ true)
     × (counting 1 3 ≡ 1 ∷ 2 ∷ 3 ∷ [])
 unfolding count least firstTwice missingFrom firstMissing alike contents total numbered joinedFrom joined counting payloads
 words = (refl, refl, refl, refl, refl, refl, refl, refl, refl)
+
+-- "an ordering of all of them exists whose sequence numbers read 1, 2, .. n, all with one LBox, and whose payloads joined have LBox-8 bytes": 2 in front of 1, put in order
+pub made : Makes (holding 2 (7 ∷ 8 ∷ []) ∷ holding 1 (9 ∷ []) ∷ []) (holding 1 (9 ∷ []) ∷ holding 2 (7 ∷ 8 ∷ []) ∷ []) (stating 11 8)
+unfolding numbers counting agree alike payloads contents
+made = record { all = swap; reads = refl; one = refl; fills = refl }
+
+-- "(given room)": three bytes are not handed out into two places
+pub no-room : (bytes : List ℕ) (kind instance : ℕ) → HandedOut bytes kind instance 2 (9 ∷ 7 ∷ 8 ∷ []) → ⊥
+no-room bytes kind instance h = let short = h .fits in omega arith

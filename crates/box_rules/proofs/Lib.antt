@@ -1,11 +1,8 @@
 pub mod Runs
-pub mod Written
-pub mod Smallest
 pub mod Walking
 pub mod WalkCases
 pub mod BoxCases
 pub mod Decimal
 pub mod Counts
-pub mod Order
 pub mod NumberCases
 pub mod TextCases

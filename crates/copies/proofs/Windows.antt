@@ -19,7 +19,7 @@ use Rattle.windows.specs.Code.{Stands, PlaceOf, Located}
 use Rattle.box_rules.specs.Box.{numbered, joinedFrom, joined}
 use Rattle.scans.specs.Code.{mineOf}
 use Rattle.copies.specs.Code.{putAt, Windowed}
-use Rattle.box_rules.proofs.Order.{none-numbered, each-once}
+use Rattle.box_laws.proofs.Order.{none-numbered, each-once}
 use Rattle.box_rules.proofs.Walking.{part-length}
 use Rattle.copies.proofs.Puts.{Writing, write-start, write-room, write-more}
 use Rattle.scans.proofs.Faults.{told-fine}

@@ -24,7 +24,7 @@ use Rattle.plane_rules.specs.Plane.{readable, writable, Plane, read, refusing, 
 use Rattle.plane_rules.specs.Dc.{dcBlocks, readDc, dcBytes, writeDc}
 use Rattle.plane_rules.specs.AcRead.{cut, acBlocks, readAc}
 use Rattle.plane_rules.specs.AcWrite.{tokens, lacking, acBytes, writeAc}
-use Rattle.box_rules.proofs.Order.{handed-given, given-handed}
+use Rattle.box_laws.proofs.Order.{handed-given, given-handed}
 use Rattle.transform_rules.specs.Picture as blockwise
 use Rattle.transform_rules.specs.Call.{firstBadQuantiser, inverseTransform}
 use Rattle.merge_rules.specs.Near.{top}

@@ -17,11 +17,11 @@ use Rattle.box_rules.specs.Packets.{Packet}
 use Rattle.packets.specs.Code.{Met}
 use Rattle.box_rules.proofs.Walking.{mine-all}
 use Rattle.box_rules.specs.Numbers.{numbers, numbersFrom, firstTwice, missingFrom, firstMissing}
-use Rattle.box_rules.proofs.Smallest.{pigeonhole}
+use Rattle.box_laws.proofs.Smallest.{pigeonhole}
 use Rattle.scans.specs.declared.Fault.the-variants.{Fine, Twice, Missing}
 use Rattle.box_rules.specs.Box.{agree, contents, total, joined, assembled, assemble, boxBytes}
 use Rattle.scans.specs.Code.{inOrder, mineOf, faultOf}
-use Rattle.box_rules.proofs.Order.{numbers-length, fine-total}
+use Rattle.box_laws.proofs.Order.{numbers-length, fine-total}
 use Rattle.scans.proofs.Faults.{fault-fine, fault-twice, fault-missing, told-fine, told-twice, told-missing}
 use Rattle.scans.proofs.InOrder.{order-twice, order-missing}
 

@@ -16,7 +16,7 @@ use Rattle.laws.proofs.Choices.{either}
 use Rattle.box_rules.specs.Numbers.{count, firstTwice, within, between}
 use Rattle.numbers.specs.Code.{chosen, TwiceIn}
 use Rattle.box_rules.proofs.Counts.{count-other}
-use Rattle.box_rules.proofs.Smallest.{within-true, within-told, never-twice, smallest-twice, twice-is, twice-none}
+use Rattle.box_laws.proofs.Smallest.{within-true, within-told, never-twice, smallest-twice, twice-is, twice-none}
 
 -- ---- a pass that counts
 

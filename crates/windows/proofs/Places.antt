@@ -20,7 +20,7 @@ use Rattle.packets.specs.Code.{Met}
 use Rattle.box_rules.specs.Numbers.{numbers, numbersFrom, count, missingFrom}
 use Rattle.numbers.proofs.Meeting.{numbers-met}
 use Rattle.box_rules.proofs.Counts.{numbers-append, count-append, count-none, count-here, count-other}
-use Rattle.box_rules.proofs.Smallest.{missing-is, missing-more-than}
+use Rattle.box_laws.proofs.Smallest.{missing-is, missing-more-than}
 use Rattle.windows.specs.Code.{Stands, Located, marked}
 
 -- ---- a store

@@ -14,15 +14,15 @@ use Rattle.answers.specs.Verdict.{given}
 use Rattle.answers.proofs.Given.{refused-given, need-given, unless-given, fits}
 use Rattle.answers.specs.declared.Outcome.{Outcome}
 use Rattle.answers.specs.declared.Outcome.the-variants.{Given, Refused}
 use Rattle.box_rules.specs.declared.Head.{Head}
 use Rattle.box_rules.specs.Walk.{walk, ending}
 use Rattle.box_rules.specs.Packets.{Packet, packets, mine}
 use Rattle.box_rules.proofs.Walking.{ended}
 use Rattle.box_rules.specs.Numbers.{numbers, count, firstTwice, firstMissing}
 use Rattle.box_rules.proofs.Counts.{numbers-append, count-grows}
-use Rattle.box_rules.proofs.Smallest.{never-twice, twice-none, never-missing, missing-none}
+use Rattle.box_laws.proofs.Smallest.{never-twice, twice-none, never-missing, missing-none}
 use Rattle.box_rules.specs.Box.{alike, agree, contents, total, numbered, joinedFrom, joined, assembled, assemble, afterWalk, boxBytes}
 use Rattle.box_rules.specs.Order.{Reordered, none, keep, swap, both, counting, payloads, Makes, HandedOut}
 
 -- ---- what an ordering keeps
 

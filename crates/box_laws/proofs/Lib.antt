@@ -1,0 +1,3 @@
+pub mod Smallest
+pub mod Order
+pub mod Written
