@@ -15,7 +15,7 @@ use Rattle.merge_rules.specs.declared.Curve.{Curve}
 use Rattle.merge_rules.specs.declared.Curve.the-variants.{Table, Srgb}
 use Rattle.merge_rules.specs.Curves.{straight, entries}
 use Rattle.curves.specs.Code.{There, Tones}
-use Rattle.merge_rules.proofs.SrgbRule.{srgb-long}
+use Rattle.merge_laws.proofs.SrgbRule.{srgb-long}
 
 pub product-below : (x t : ℕ) → x < 65536 → t ≤ 65535 → x * t ≤ 4294836225
 product-below x t h g = let k : x ≤ 65535 = omega arith in mul-le-mul k g

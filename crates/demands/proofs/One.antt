@@ -35,7 +35,7 @@ use Rattle.merge_rules.specs.declared.Setting.{Setting}
 use Rattle.merge_rules.specs.Settings.{inRanges, plain, srgbAllowed, samples, lengthsRight, entryRight}
 use Rattle.merge_rules.specs.Picture as merging
 use Rattle.merge_rules.specs.Picture.{merge, mergeTests}
-use Rattle.merge_rules.proofs.Order.{picture-long}
+use Rattle.merge_laws.proofs.Order.{picture-long}
 use Rattle.merge_rules.specs.Call.{matrixCount, settingNumber, mergeCall}
 use Rattle.demands.specs.One.{Rows, row, rows, stands, _then_, failing, needed, First, FirstLacking, boxRows, packetRows, listRows, dcReadRows, acReadRows, dcWriteRows, acWriteRows, transformRows, mergeRows, mergeCallRows, DemandOne}
 use Rattle.demands.specs.Blocks.{oneDc, oneAc}

@@ -1,5 +1,5 @@
 -- The sRGB table is the one that its rule gives. Assumes nothing.
-use Rattle.merge_rules.proofs.SrgbRule.{srgb-long, srgb-rule, srgb-one}
+use Rattle.merge_laws.proofs.SrgbRule.{srgb-long, srgb-rule, srgb-one}
 use Rattle.demands.specs.Srgb.{TableByRule}
 
 pub table-by-rule : TableByRule

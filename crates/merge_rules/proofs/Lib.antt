@@ -3,6 +3,4 @@ pub mod RoundingCases
 pub mod CurveCases
 pub mod PixelCases
 pub mod SettingCases
-pub mod Order
-pub mod SrgbRule
 pub mod CallCases

@@ -11,7 +11,7 @@ use Rattle.merge_rules.specs.Near.{top}
 use Rattle.merge_rules.specs.Settings.{inRanges, plain, srgbAllowed, lengthsRight, entryRight}
 use Rattle.settings.specs.Code.{Ranged, Passed}
 use Rattle.settings.proofs.Laws.{ranged, passed, count-small}
-use Rattle.merge_rules.proofs.Order.{no-range, not-plain, no-srgb, no-lengths, too-large, no-room, all-right}
+use Rattle.merge_laws.proofs.Order.{no-range, not-plain, no-srgb, no-lengths, too-large, no-room, all-right}
 use Rattle.merge.proofs.tested.Statement.{statement}
 use Rattle.merge.proofs.tested.Tie as tie
 

@@ -1,7 +1,7 @@
 -- `merge::try_merge` meets its contract: the tests' own promise, and the picture behind them. Assumes nothing.
 use borrow.Author.Needs.{needs}
 use Rattle.merge_rules.specs.Picture.{merge}
-use Rattle.merge_rules.proofs.Order.{picture-long}
+use Rattle.merge_laws.proofs.Order.{picture-long}
 use Rattle.merge.proofs.Testing.{tried-tests, tried-result}
 use Rattle.merge.proofs.try_merge.Statement.{statement}
 use Rattle.merge.proofs.try_merge.Tie as tie
