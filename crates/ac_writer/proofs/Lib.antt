@@ -1,3 +1,4 @@
 pub mod Lengths
 pub mod Positions
 pub mod Planes
+pub mod Cases
