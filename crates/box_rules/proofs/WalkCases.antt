@@ -33,9 +33,12 @@ abbrev head : ℕ → Head
 head lbox = record { instance = 0x0102; number = 0x03040506; stated = lbox; heading = 8; kind = 0x4C505453 }
 
 -- "All numbers are big-endian."
-pub numbers : (be16 (9 ∷ 0x12 ∷ 0x34 ∷ []) 1 ≡ 0x1234) × (be32 (9 ∷ 0x12 ∷ 0x34 ∷ 0x56 ∷ 0x78 ∷ []) 1 ≡ 0x12345678)
+pub numbers : (be16 (9 ∷ 0x12 ∷ 0x34 ∷ []) 1 ≡ 0x1234)
+    × (be16 (0xFF ∷ 0xFF ∷ []) 0 ≡ 65535)
+    × (be32 (9 ∷ 0x12 ∷ 0x34 ∷ 0x56 ∷ 0x78 ∷ []) 1 ≡ 0x12345678)
+    × (be32 (0xFF ∷ 0xFF ∷ 0xFF ∷ 0xFF ∷ []) 0 ≡ 4294967295)
 unfolding be16 be32
-numbers = (refl, refl)
+numbers = (refl, refl, refl, refl)
 
 -- "A segment is FF, any further FF fill, a marker byte": no FF, fill to the end, fill in front of a marker. "The walk ends well at marker DA, needing nothing after it."
 -- "Markers 00, 01, D0 to D9 .. give 2": both sides of each edge, each in front of the length 2.
