@@ -9,7 +9,6 @@ use lib.Pow.{pow-mono}
 use lib.ListN.{length, getD, drop}
 use lib.Seq.{drop-cons}
 use borrow.Author.Tests.{lt-ltb, le-ltb}
-pub use Rattle.bit_rules.proofs.Digits.{bin-odd}
 use Rattle.bit_rules.specs.Table.{codeCount}
 use Rattle.bit_rules.specs.Write.{codeAt}
 use Rattle.code_entries.specs.Code.{Assigned}

@@ -19,7 +19,8 @@ use Rattle.trips.proofs.Trip.{gives-split}
 use Rattle.bit_rules.specs.Table.{Table, goodTable}
 use Rattle.bit_rules.specs.Read.{takeCode}
 use Rattle.bit_rules.specs.Write.{placeOf, word}
-use Rattle.trips.proofs.CodeTrip.{bin-odd, halve, code-trip}
+use Rattle.bit_rules.proofs.Digits.{bin-odd}
+use Rattle.trips.proofs.CodeTrip.{halve, code-trip}
 use Rattle.plane_rules.specs.Plane.{read, onto}
 use Rattle.plane_rules.specs.Task.{Task, walk, ended, unit, atZero}
 use Rattle.bit_rules.specs.Number.{takeNumber}

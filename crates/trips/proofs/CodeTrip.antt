@@ -16,7 +16,7 @@ use Rattle.bit_rules.specs.Digits.{bin, odd, digits}
 use Rattle.bit_rules.specs.Source.{Source, source, got}
 use Rattle.bit_rules.specs.Gives.{Gives}
 use Rattle.trips.proofs.Trip.{in-hand, gives-split}
-pub use Rattle.bit_rules.proofs.Digits.{bin-odd}
+use Rattle.bit_rules.proofs.Digits.{bin-odd}
 use Rattle.bit_rules.specs.Table.{Table, codeCount, kraft, goodTable}
 use Rattle.bit_rules.specs.Read.{codeFrom, takeCode}
 use Rattle.bit_rules.specs.Write.{placeOf, codeAt, word}

@@ -19,7 +19,8 @@ use Rattle.bit_rules.specs.Digits.{bin, odd}
 use Rattle.bit_rules.specs.Source.{Source, start}
 use Rattle.bit_rules.specs.Gives.{Gives}
 use Rattle.trips.proofs.Trip.{bytes-say, padding-left}
-use Rattle.trips.proofs.CodeTrip.{bin-odd, halve}
+use Rattle.bit_rules.proofs.Digits.{bin-odd}
+use Rattle.trips.proofs.CodeTrip.{halve}
 use Rattle.plane_rules.specs.Plane.{readable, writable, read, onto, closed}
 use Rattle.plane_rules.specs.Dc.{newDc, dcBlocks, readDc, dcHalf, dcBit, dcBytes, writeDc}
 use Rattle.plane_rules.specs.Levels.{downward, atLevel, accepted, climb}
