@@ -18,6 +18,7 @@ use Rattle.box_rules.specs.declared.Head.{Head}
 use Rattle.box_rules.specs.Walk.{walk, ending}
 use Rattle.box_rules.specs.Packets.{Packet, packets, mine}
 use Rattle.box_rules.proofs.Walking.{ended}
+use Rattle.box_rules.proofs.Strangers.{self}
 use Rattle.box_rules.specs.Numbers.{numbers, count, firstTwice, firstMissing}
 use Rattle.box_rules.proofs.Counts.{numbers-append, count-grows}
 use Rattle.box_laws.proofs.Smallest.{never-twice, twice-none, never-missing, missing-none}
@@ -32,28 +33,28 @@ swap-count true false c = refl
 swap-count false true c = refl
 swap-count false false c = refl
 
-same-count : {a b : List Packet} → Reordered a b → (q : ℕ) → count q (numbers a) ≡ count q (numbers b)
+pub same-count : {a b : List Packet} → Reordered a b → (q : ℕ) → count q (numbers a) ≡ count q (numbers b)
 unfolding numbers count
 same-count none q = refl
 same-count (keep h) q = rw (same-count h q)
 same-count (swap {p} {q = r} {a}) q = swap-count (eqb (p .head .number) q) (eqb (r .head .number) q) (count q (numbers a))
 same-count (both g h) q = same-count g q ∙ same-count h q
 
-same-agree : {a b : List Packet} → Reordered a b → (h : Head) → agree h a ≡ agree h b
+pub same-agree : {a b : List Packet} → Reordered a b → (h : Head) → agree h a ≡ agree h b
 unfolding agree
 same-agree none h = refl
 same-agree (keep g) h = rw (same-agree g h)
 same-agree (swap {p} {q = r} {a}) h = cond-swap (alike h (p .head)) (alike h (r .head)) (agree h a)
 same-agree (both f g) h = same-agree f h ∙ same-agree g h
 
-same-total : {a b : List Packet} → Reordered a b → total a ≡ total b
+pub same-total : {a b : List Packet} → Reordered a b → total a ≡ total b
 unfolding total
 same-total none = refl
 same-total (keep h) = rw (same-total h)
 same-total swap = omega arith
 same-total (both g h) = same-total g ∙ same-total h
 
-same-length : {a b : List Packet} → Reordered a b → length a ≡ length b
+pub same-length : {a b : List Packet} → Reordered a b → length a ≡ length b
 same-length none = refl
 same-length (keep h) = rw (same-length h)
 same-length swap = refl
@@ -66,7 +67,7 @@ swap-numbered true false c p r n h = refl
 swap-numbered false true c p r n h = refl
 swap-numbered false false c p r n h = refl
 
-same-numbered : {a b : List Packet} → Reordered a b → (q : ℕ) → count q (numbers a) ≤ 1 → numbered q a ≡ numbered q b
+pub same-numbered : {a b : List Packet} → Reordered a b → (q : ℕ) → count q (numbers a) ≤ 1 → numbered q a ≡ numbered q b
 unfolding numbered numbers count
 same-numbered none q h = refl
 same-numbered (keep {p} {a} g) q h = rw (same-numbered g q (omega (arith, count-grows (p .head .number) q (numbers a))))
@@ -124,7 +125,7 @@ none-numbered (p ∷ r) q h =
     (either (eqb (p .head .number) q))
 
 -- joined looks only at the numbers from a on
-same-joined : (x y : List Packet) (k a : ℕ) → ((j : ℕ) → a ≤ j → numbered j x ≡ numbered j y) → joinedFrom k a x ≡ joinedFrom k a y
+pub same-joined : (x y : List Packet) (k a : ℕ) → ((j : ℕ) → a ≤ j → numbered j x ≡ numbered j y) → joinedFrom k a x ≡ joinedFrom k a y
 unfolding joinedFrom
 same-joined x y zero a h = refl
 same-joined x y (suc k) a h = rw (h a (omega arith), same-joined x y k (suc a) (λ j g. h j (omega arith)))
@@ -191,10 +192,6 @@ sorted (suc k) q ps = only q ps ++ sorted k (suc q) (without q ps)
 left : ℕ → ℕ → List Packet → List Packet
 left zero q ps = ps
 left (suc k) q ps = left k (suc q) (without q ps)
-
-pub self : (a : List Packet) → Reordered a a
-self [] = none
-self (p ∷ r) = keep (self r)
 
 -- p behind a is p in front of it
 sift : (p : Packet) (a b : List Packet) → Reordered (p ∷ (a ++ b)) (a ++ (p ∷ b))
@@ -283,7 +280,7 @@ fine-total ps t m = let s = sorted-makes ps t m in reads-total ps (sorted (lengt
 
 -- ---- the law, for a list of packets
 
-alike-contents : (h g : Head) → alike h g ≡ true → contents g ≡ contents h
+pub alike-contents : (h g : Head) → alike h g ≡ true → contents g ≡ contents h
 unfolding alike contents
 alike-contents h g e =
     let s : g .stated ≡ h .stated = eqb-true (g .stated) (h .stated) (cond-left (eqb (g .stated) (h .stated)) (eqb (g .heading) (h .heading)) e) in
@@ -298,7 +295,7 @@ alike-alike h g k e =
     let t : g .heading ≡ h .heading = eqb-true (g .heading) (h .heading) (cond-right (eqb (g .stated) (h .stated)) (eqb (g .heading) (h .heading)) e) in
     ap₂ (λ (x y : ℕ). cond (eqb (k .stated) x) (eqb (k .heading) y) false) (sym s) (sym t)
 
-alike-agree : (h g : Head) (ps : List Packet) → alike h g ≡ true → agree h ps ≡ agree g ps
+pub alike-agree : (h g : Head) (ps : List Packet) → alike h g ≡ true → agree h ps ≡ agree g ps
 unfolding agree
 alike-agree h g [] e = refl
 alike-agree h g (p ∷ r) e = rw (alike-alike h g (p .head) e, alike-agree h g r e)
@@ -318,7 +315,7 @@ made-assembled ps l h room f k =
     )
     (fits room (payloads l) k)
 
-first-alike : (h : Head) (p : Packet) (r : List Packet) → agree h (p ∷ r) ≡ true → alike h (p .head) ≡ true
+pub first-alike : (h : Head) (p : Packet) (r : List Packet) → agree h (p ∷ r) ≡ true → alike h (p .head) ≡ true
 unfolding agree
 first-alike h p r a = cond-left (alike h (p .head)) (agree h r) a
 

@@ -2,6 +2,8 @@ pub mod Runs
 pub mod Walking
 pub mod WalkCases
 pub mod BoxCases
+pub mod Strangers
+pub mod StrangerCases
 pub mod Decimal
 pub mod Counts
 pub mod NumberCases

@@ -68,3 +68,20 @@ Sound (other fill marker contents) = Plain marker contents
 abbrev pub AllSound : List Part → Type 0
 AllSound [] = Unit
 AllSound (x ∷ r) = Sound x × AllSound r
+
+-- ---- two files that are one picture for a type and instance
+
+-- P24: a segment that is no packet of this type and instance
+abbrev pub Stranger : ℕ → ℕ → Part → Type 0
+Stranger kind instance (packed fill p) = p .head .kind ≡ kind → p .head .instance ≡ instance → ⊥
+Stranger kind instance (other fill marker contents) = Unit
+
+-- P24: "Other boxes may differ in count, content and position": two files have the same packets of this type and instance, each behind any fill,
+-- and any strangers; two segments may stand the other way round, since "File order doesn't matter."
+pub data SameFor (kind instance : ℕ) : List Part → List Part → Type 0 where
+  empty : SameFor kind instance [] []
+  shared : {p : Packet} {a b : List Part} (fill fill′ : ℕ) → SameFor kind instance a b → SameFor kind instance (packed fill p ∷ a) (packed fill′ p ∷ b)
+  here : {x : Part} {a b : List Part} → Stranger kind instance x → SameFor kind instance a b → SameFor kind instance (x ∷ a) b
+  there : {x : Part} {a b : List Part} → Stranger kind instance x → SameFor kind instance a b → SameFor kind instance a (x ∷ b)
+  exchanged : {x y : Part} {a : List Part} → SameFor kind instance (x ∷ (y ∷ a)) (y ∷ (x ∷ a))
+  through : {a b c : List Part} → SameFor kind instance a b → SameFor kind instance b c → SameFor kind instance a c

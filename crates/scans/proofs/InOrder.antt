@@ -14,8 +14,9 @@ use Rattle.box_rules.specs.Numbers.{numbers, count, firstTwice, firstMissing}
 use Rattle.box_laws.proofs.Smallest.{twice-none}
 use Rattle.box_rules.specs.Box.{joined}
 use Rattle.box_rules.specs.Order.{counting, payloads}
+use Rattle.box_rules.proofs.Strangers.{self}
 use Rattle.scans.specs.Code.{inOrder, rises}
-use Rattle.box_laws.proofs.Order.{low, numbers-length, reads-joined, reads-missing, reads-twice, self}
+use Rattle.box_laws.proofs.Order.{low, numbers-length, reads-joined, reads-missing, reads-twice}
 
 order-reads : (ns : List ℕ) (q : ℕ) → inOrder q ns ≡ true → ns ≡ counting q (length ns)
 unfolding inOrder counting
