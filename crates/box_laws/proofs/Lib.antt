@@ -1,3 +1,4 @@
 pub mod Smallest
 pub mod Order
+pub mod Reordering
 pub mod Written
