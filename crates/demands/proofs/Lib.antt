@@ -11,4 +11,5 @@ pub mod Three
 pub mod Cases
 pub mod Srgb
 pub mod Shams
+pub mod Practice
 pub mod Written

@@ -21,7 +21,7 @@ use Rattle.demands.specs.Cases.{Result, naturals, integers, resultOf, Ca
 use Rattle.demands.proofs.Two.{dc-refined, sampled}
 use Rattle.demands.proofs.Cases.{whiteboard-holds}
 
-one-outcome : OneOutcome
+pub one-outcome : OneOutcome
 one-outcome A nil v before after after′ answer answer′ m m′ = (m .answered ∙ sym (m′ .answered), m .held ∙ sym (m′ .held))
 
 one-refusal : OneRefusal

@@ -55,6 +55,10 @@ infixr 6 _gives_
 abbrev pub _gives_ : Asked → Result → Case
 _gives_ asked says = record { asked = asked; says = says }
 
+-- S9, S10: each reading of a list is what is said of it
+abbrev pub Hold : List Case → Type 0
+Hold cases = map (λ (c : Case). resultOf (c .asked)) cases ≡ map (λ (c : Case). c .says) cases
+
 -- ---- what the readings are taken from
 
 -- S1: "FF D8 FF EB 00 15 4A 50 00 01 00 00 00 01 00 00 00 0B 4C 50 54 53 AA BB CC FF DA"
@@ -143,4 +147,4 @@ whiteboard =
 
 -- S9: every reading is what the whiteboard says
 abbrev pub WhiteboardHolds : Type 0
-WhiteboardHolds = map (λ (c : Case). resultOf (c .asked)) whiteboard ≡ map (λ (c : Case). c .says) whiteboard
+WhiteboardHolds = Hold whiteboard

@@ -5,4 +5,5 @@ pub mod Three
 pub mod Cases
 pub mod Srgb
 pub mod Shams
+pub mod Practice
 pub mod Written

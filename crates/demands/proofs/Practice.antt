@@ -1,0 +1,143 @@
+-- Practice does not reach live. Assumes nothing.
+use mathlib.Core.Path.{_≡_, refl, sym, ap, subst, _∙_}
+use mathlib.Core.Logic.{inr}
+use mathlib.Core.List.{List, [], _∷_}
+use Prim.Native.Nat.{ℕ, _≤_}
+use native.Mathlib.Omega.{arith}
+use lib.ListN.{length}
+use Rattle.answers.specs.Verdict.{Verdict, Meets}
+use Rattle.answers.specs.declared.Answer.{Answer}
+use Rattle.box_rules.specs.Walk.{be16, be32, headAt, ones, barred, tagged, packetAt, wholeAt, sizedAt, markedAt, stepAt, stepsIn, stepsFrom, begins, walk, ending}
+use Rattle.box_rules.specs.Packets.{Packet, packetsIn, packets, isMine, mine}
+use Rattle.box_rules.specs.Numbers.{numbers, count, least, firstTwice, missingFrom, firstMissing}
+use Rattle.box_rules.specs.Box.{alike, agree, contents, total, numbered, joinedFrom, joined, assembled, assemble, boxBytes}
+use Rattle.box_rules.specs.Order.{Reordered, swap}
+use Rattle.box_rules.specs.Layout.{Part, packed, other, Boxed, Plain, two, four, segment, inner, bytesOf, allBytes, laidOut, packetsOf, AllSound, SameFor, empty, shared, here, there, exchanged, through}
+use Rattle.box_rules.proofs.Strangers.{self, same-for}
+use Rattle.box_laws.proofs.Reordering.{same-answer}
+use Rattle.box_laws.proofs.Written.{laid-out}
+use Rattle.demands.specs.Cases.{resultOf, lpts}
+use Rattle.demands.specs.Practice.{EndsWell, own, Same, AnsweredAlike, PracticeApart, live, strangerInFront, strangerBetween, strangerBehind, practiceBetween, backward, elsewhere, PracticeHolds, StillLive, PracticeShown}
+use Rattle.demands.proofs.Shams.{one-outcome}
+
+-- ---- the law
+
+module _ (kind instance : ℕ) (file file′ : List ℕ) (w : EndsWell file) (w′ : EndsWell file′) where
+  in-any-order : Reordered (own kind instance file) (own kind instance file′) → AnsweredAlike kind instance file file′
+  in-any-order h before after after′ answer answer′ m m′ =
+      let v : boxBytes file kind instance (length before) ≡ boxBytes file′ kind instance (length before) = same-answer file file′ kind instance (length before) (w ∙ sym w′) h in
+      let one = one-outcome ℕ 0 (boxBytes file′ kind instance (length before)) before after after′ answer answer′
+      (subst (λ (x : Verdict ℕ). Meets 0 x before after answer) v m) m′ in
+      record { number = ap (λ (a : Answer). a .number) (one .0); place = ap (λ (a : Answer). a .place) (one .0); bytes = one .1 }
+
+  in-one-order : own kind instance file ≡ own kind instance file′ → AnsweredAlike kind instance file file′
+  in-one-order e = in-any-order (subst (Reordered (own kind instance file)) e (self (own kind instance file)))
+
+as-written : (kind instance : ℕ) (parts parts′ : List Part) (fill fill′ : ℕ) (behind behind′ : List ℕ) → AllSound parts → AllSound parts′
+    → SameFor kind instance parts parts′ → AnsweredAlike kind instance (laidOut parts fill behind) (laidOut parts′ fill′ behind′)
+as-written kind instance parts parts′ fill fill′ behind behind′ s s′ h =
+    let a = laid-out parts fill behind s in
+    let b = laid-out parts′ fill′ behind′ s′ in
+    in-any-order kind instance (laidOut parts fill behind) (laidOut parts′ fill′ behind′) (a .1) (b .1) (rw (a .0, b .0) (same-for kind instance h))
+
+pub practice-apart : PracticeApart
+practice-apart = record { strangers = in-one-order; order = in-any-order; written = as-written }
+
+-- ---- the list
+
+pub practice-holds : PracticeHolds
+unfolding resultOf be16 be32 headAt ones barred tagged packetAt wholeAt sizedAt markedAt stepAt stepsIn stepsFrom begins walk ending packetsIn packets isMine mine
+    numbers count least firstTwice missingFrom firstMissing alike agree contents total numbered joinedFrom joined assembled assemble boxBytes
+practice-holds = refl
+
+-- ---- the same by the law
+
+-- a call on the live picture
+live-met : Meets 0 (boxBytes live lpts 1 6) (0x2E ∷ 0x2E ∷ 0x2E ∷ 0x2E ∷ 0x2E ∷ 0x2E ∷ []) (0x39 ∷ 0x2E ∷ 0x35 ∷ 0x38 ∷ 0x2E ∷ 0x2E ∷ []) (record { number = 0; place = 4 })
+unfolding be16 be32 headAt ones barred tagged packetAt wholeAt sizedAt markedAt stepAt stepsIn stepsFrom begins walk ending packetsIn packets isMine mine
+    numbers count least firstTwice missingFrom firstMissing alike agree contents total numbered joinedFrom joined assembled assemble boxBytes
+live-met = record { answered = refl; held = refl }
+
+still : (file : List ℕ) → AnsweredAlike lpts 1 live file → StillLive file
+still file alike after answer m =
+    let s = alike _ _ after _ answer live-met m in
+    (sym (s .number), sym (s .place), sym (s .bytes))
+
+-- the walk over a file ends well and meets the packets of the live picture
+by-strangers : (file : List ℕ) → EndsWell live → EndsWell file → own lpts 1 live ≡ own lpts 1 file → StillLive file
+by-strangers file w w′ e = still file (practice-apart .strangers lpts 1 live file w w′ e)
+
+-- ---- the last picture as a writer lays it out
+
+abbrev holding : ℕ → ℕ → ℕ → ℕ → List ℕ → Packet
+holding kind instance number stated payload = record { head = record { instance = instance; number = number; stated = stated; heading = 8; kind = kind }; payload = payload }
+
+abbrev one : Packet
+one = holding lpts 1 1 12 (0x39 ∷ 0x2E ∷ [])
+
+abbrev another : Packet
+another = holding lpts 1 2 12 (0x35 ∷ 0x38 ∷ [])
+
+abbrev practised : Part
+practised = packed 0 (holding lpts 2 1 12 (0x39 ∷ 0x2E ∷ 0x39 ∷ 0x39 ∷ []))
+
+abbrev toned : Part
+toned = packed 0 (holding 0x544F4E45 1 1 10 (0x31 ∷ 0x32 ∷ []))
+
+abbrev remark : Part
+remark = other 0 0xFE (0x68 ∷ 0x69 ∷ [])
+
+abbrev liveParts : List Part
+liveParts = packed 0 one ∷ packed 0 another ∷ []
+
+abbrev elsewhereParts : List Part
+elsewhereParts = remark ∷ practised ∷ packed 2 another ∷ toned ∷ remark ∷ packed 0 one ∷ []
+
+live-laid : laidOut liveParts 0 [] ≡ live
+unfolding laidOut allBytes bytesOf segment inner two four
+live-laid = refl
+
+elsewhere-laid : laidOut elsewhereParts 1 (0x39 ∷ 0x39 ∷ []) ≡ elsewhere
+unfolding laidOut allBytes bytesOf segment inner two four
+elsewhere-laid = refl
+
+boxed : (kind instance number stated : ℕ) (payload : List ℕ) → 8 ≤ stated → Boxed (holding kind instance number stated payload)
+boxed kind instance number stated payload h = record { least = h; eight = refl }
+
+plain : Plain 0xFE (0x68 ∷ 0x69 ∷ [])
+plain = record { low = omega arith; high = omega arith; carries = inr (omega arith); untagged = λ e r c. omega arith }
+
+live-sound : AllSound liveParts
+live-sound = (boxed _ _ _ _ _ (omega arith), (boxed _ _ _ _ _ (omega arith), tt))
+
+elsewhere-sound : AllSound elsewhereParts
+elsewhere-sound =
+    (plain, (boxed _ _ _ _ _ (omega arith), (boxed _ _ _ _ _ (omega arith), (boxed _ _ _ _ _ (omega arith), (plain, (boxed _ _ _ _ _ (omega arith), tt))))))
+
+same-parts : SameFor lpts 1 liveParts elsewhereParts
+same-parts =
+    through exchanged
+    (there {x = remark} tt
+    (there {x = practised} (λ k i. omega arith)
+    (shared 0 2
+    (there {x = toned} (λ k i. omega arith)
+    (there {x = remark} tt
+    (shared 0 0 empty))))))
+
+elsewhere-alike : AnsweredAlike lpts 1 live elsewhere
+elsewhere-alike =
+    subst (λ (x : List ℕ). AnsweredAlike lpts 1 live x) elsewhere-laid
+    (subst (λ (x : List ℕ). AnsweredAlike lpts 1 x (laidOut elsewhereParts 1 (0x39 ∷ 0x39 ∷ []))) live-laid
+    (practice-apart .written lpts 1 liveParts elsewhereParts 0 1 [] (0x39 ∷ 0x39 ∷ []) live-sound elsewhere-sound same-parts))
+
+pub practice-shown : PracticeShown
+unfolding be16 be32 headAt ones barred tagged packetAt wholeAt sizedAt markedAt stepAt stepsIn stepsFrom begins walk ending packetsIn packets isMine mine
+practice-shown = record {
+  inFront = by-strangers strangerInFront refl refl refl;
+  between = by-strangers strangerBetween refl refl refl;
+  behind = by-strangers strangerBehind refl refl refl;
+  practised = by-strangers practiceBetween refl refl refl;
+  turned = still backward (practice-apart .order lpts 1 live backward refl refl swap);
+  moved = still elsewhere elsewhere-alike;
+  listed = refl;
+}
