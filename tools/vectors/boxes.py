@@ -14,8 +14,10 @@ exec(source, rules)
 records = []
 
 
-def record(group, file, kind, instance, room):
-    number, answer = rules['box'](file, kind, instance)
+def record(group, file, kind, instance, room, same=None):
+    """What is expected is what the rules give for the file, or for the one that it must be the same as."""
+    number, answer = rules['box'](same or file, kind, instance)
+    assert (number, answer) == rules['box'](file, kind, instance)
     expected = b''
     if number == 0:
         expected, answer = answer, len(answer)
@@ -46,6 +48,33 @@ def broken_heads():
         record('2 before 3', b'\xff\xd8' + front + packet(1, b'', 7) + b'\xff\0', b'LPTS', 1, 9)
 
 
+def laid(segments, rnd, behind):
+    """FF D8, the segments, each behind some fill, DA and what follows it."""
+    fill = lambda: b'\xff' * rnd.randrange(1, 4)
+    return b'\xff\xd8' + b''.join(fill() + s for s in segments) + fill() + b'\xda' + behind
+
+
+def practice_beside_live():
+    """A8: a file, the same with strangers, other fill and other bytes behind SOS, and that in another order: what is expected of all three is what the first one gives."""
+    rnd = random.Random(8)
+    some = lambda n: bytes(rnd.randrange(256) for _ in range(rnd.randrange(n)))
+    for _ in range(45):
+        parts = [some(5) for _ in range(rnd.randrange(1, 5))]
+        numbers = [k + 1 if rnd.random() < .8 else rnd.randrange(6) for k in range(len(parts))]
+        lbox = 8 + sum(map(len, parts)) + (rnd.random() < .1)
+        own = [packet(q, part, lbox + (rnd.random() < .03), fill=0) for q, part in zip(numbers, parts)]
+        beside = list(own)
+        for _ in range(rnd.randrange(1, 6)):
+            instance, kind = rnd.choice([(2, b'LPTS'), (1, b'FINE'), (0x0100, b'LPTS'), (1, b'LPTT')])
+            stranger = packet(rnd.choice(numbers), some(5), rnd.choice([8, lbox]), instance, kind, 0)
+            beside.insert(rnd.randrange(len(beside) + 1), rnd.choice([stranger, stranger, b'\xe0' + struct.pack('>H', 4) + b'hi']))
+        moved = rnd.sample(beside, len(beside))
+        live, room = laid(own, rnd, some(3)), rnd.choice([30, 30, 3])
+        record('practice beside live: the live picture', live, b'LPTS', 1, room)
+        record('practice beside live: strangers put in', laid(beside, rnd, some(3)), b'LPTS', 1, room, live)
+        record('practice beside live: in another order', laid(moved, rnd, some(3)), b'LPTS', 1, room, live)
+
+
 def main():
     rnd = random.Random(184773)
     for n in (1, 2, 5, 40, 300):
@@ -72,6 +101,7 @@ def main():
     picture = open(os.path.join(ROOT, 'pictures', 'finish.jpg'), 'rb').read()
     record('the bundled picture', picture, b'TONE', 1, 9000)
     record('the bundled picture', picture, b'FINE', 3, 9000)
+    practice_beside_live()
     write(records, sys.argv[1], sys.argv[2])
 
 
