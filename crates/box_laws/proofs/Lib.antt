@@ -1,4 +1,4 @@
 pub mod Smallest
-pub mod Order
 pub mod Reordering
+pub mod Order
 pub mod Written

@@ -1,15 +1,15 @@
 -- The law of P11: bytes are handed out exactly if an ordering exists, then these are the bytes, and two orderings give the same. Assumes nothing.
-use Prim.Native.Nat.{ℕ, zero, suc, _+_, _-_, _≤_, _<_}
+use Prim.Native.Nat.{ℕ, zero, suc, _+_, _≤_, _<_}
 use mathlib.Core.Path.{_≡_, refl, ap, ap₂, sym, subst, _∙_}
 use mathlib.Core.Logic.{⊎-elim}
 use mathlib.Core.List.{List, [], _∷_, _++_, append-nil, append-assoc}
-use mathlib.Core.Bool.{Bool, true, false, cond}
+use mathlib.Core.Bool.{true, cond}
 use native.Mathlib.Omega.{arith}
 use lib.ListN.{length, length-append}
 use lib.Dec.{eqb, leb}
 use borrow.Author.Tests.{eq-eqb, ne-eqb, eqb-true, eqb-false, leb-true}
 use Rattle.laws.specs.declared.Found.the-variants.{Nothing}
-use Rattle.laws.proofs.Choices.{either, cond-left, cond-right, cond-swap}
+use Rattle.laws.proofs.Choices.{either}
 use Rattle.answers.specs.Verdict.{given}
 use Rattle.answers.proofs.Given.{refused-given, need-given, unless-given, fits}
 use Rattle.answers.specs.declared.Outcome.{Outcome}
@@ -20,60 +20,11 @@ use Rattle.box_rules.specs.Packets.{Packet, packets, mine}
 use Rattle.box_rules.proofs.Walking.{ended}
 use Rattle.box_rules.proofs.Strangers.{self}
 use Rattle.box_rules.specs.Numbers.{numbers, count, firstTwice, firstMissing}
-use Rattle.box_rules.proofs.Counts.{numbers-append, count-grows}
+use Rattle.box_rules.proofs.Counts.{numbers-append}
 use Rattle.box_laws.proofs.Smallest.{never-twice, twice-none, never-missing, missing-none}
+use Rattle.box_laws.proofs.Reordering.{same-agree, same-total, same-length, same-joined, numbers-length, alike-contents, alike-agree, first-alike, twice-kept, joined-kept, same-assemble}
 use Rattle.box_rules.specs.Box.{alike, agree, contents, total, numbered, joinedFrom, joined, assembled, assemble, afterWalk, boxBytes}
 use Rattle.box_rules.specs.Order.{Reordered, none, keep, swap, both, counting, payloads, Makes, HandedOut}
-
--- ---- what an ordering keeps
-
-swap-count : (x y : Bool) (c : ℕ) → cond x (suc (cond y (suc c) c)) (cond y (suc c) c) ≡ cond y (suc (cond x (suc c) c)) (cond x (suc c) c)
-swap-count true true c = refl
-swap-count true false c = refl
-swap-count false true c = refl
-swap-count false false c = refl
-
-pub same-count : {a b : List Packet} → Reordered a b → (q : ℕ) → count q (numbers a) ≡ count q (numbers b)
-unfolding numbers count
-same-count none q = refl
-same-count (keep h) q = rw (same-count h q)
-same-count (swap {p} {q = r} {a}) q = swap-count (eqb (p .head .number) q) (eqb (r .head .number) q) (count q (numbers a))
-same-count (both g h) q = same-count g q ∙ same-count h q
-
-pub same-agree : {a b : List Packet} → Reordered a b → (h : Head) → agree h a ≡ agree h b
-unfolding agree
-same-agree none h = refl
-same-agree (keep g) h = rw (same-agree g h)
-same-agree (swap {p} {q = r} {a}) h = cond-swap (alike h (p .head)) (alike h (r .head)) (agree h a)
-same-agree (both f g) h = same-agree f h ∙ same-agree g h
-
-pub same-total : {a b : List Packet} → Reordered a b → total a ≡ total b
-unfolding total
-same-total none = refl
-same-total (keep h) = rw (same-total h)
-same-total swap = omega arith
-same-total (both g h) = same-total g ∙ same-total h
-
-pub same-length : {a b : List Packet} → Reordered a b → length a ≡ length b
-same-length none = refl
-same-length (keep h) = rw (same-length h)
-same-length swap = refl
-same-length (both g h) = same-length g ∙ same-length h
-
-swap-numbered : (x y : Bool) (c : ℕ) (p r n : List ℕ) → cond x (suc (cond y (suc c) c)) (cond y (suc c) c) ≤ 1
-    → cond x (p ++ cond y (r ++ n) n) (cond y (r ++ n) n) ≡ cond y (r ++ cond x (p ++ n) n) (cond x (p ++ n) n)
-swap-numbered true true c p r n h = absurd (omega arith)
-swap-numbered true false c p r n h = refl
-swap-numbered false true c p r n h = refl
-swap-numbered false false c p r n h = refl
-
-pub same-numbered : {a b : List Packet} → Reordered a b → (q : ℕ) → count q (numbers a) ≤ 1 → numbered q a ≡ numbered q b
-unfolding numbered numbers count
-same-numbered none q h = refl
-same-numbered (keep {p} {a} g) q h = rw (same-numbered g q (omega (arith, count-grows (p .head .number) q (numbers a))))
-same-numbered (swap {p} {q = r} {a}) q h =
-    swap-numbered (eqb (p .head .number) q) (eqb (r .head .number) q) (count q (numbers a)) (p .payload) (r .payload) (numbered q a) h
-same-numbered (both f g) q h = same-numbered f q h ∙ same-numbered g q (omega (arith, same-count f q))
 
 -- ---- the numbers a, a + 1, ..
 
@@ -124,12 +75,6 @@ none-numbered (p ∷ r) q h =
     (λ t. rw t (none-numbered r q (rw t at h)))
     (either (eqb (p .head .number) q))
 
--- joined looks only at the numbers from a on
-pub same-joined : (x y : List Packet) (k a : ℕ) → ((j : ℕ) → a ≤ j → numbered j x ≡ numbered j y) → joinedFrom k a x ≡ joinedFrom k a y
-unfolding joinedFrom
-same-joined x y zero a h = refl
-same-joined x y (suc k) a h = rw (h a (omega arith), same-joined x y k (suc a) (λ j g. h j (omega arith)))
-
 joined-reads : (l : List Packet) (a k : ℕ) → numbers l ≡ counting a k → joinedFrom k a l ≡ payloads l
 unfolding numbers counting joinedFrom payloads numbered
 joined-reads [] a zero e = refl
@@ -147,33 +92,27 @@ unfolding payloads total
 payloads-total [] = refl
 payloads-total (p ∷ r) = length-append (p .payload) (payloads r) ∙ rw (payloads-total r)
 
-pub numbers-length : (a : List Packet) → length (numbers a) ≡ length a
-unfolding numbers
-numbers-length [] = refl
-numbers-length (p ∷ a) = ap suc (numbers-length a)
+-- ---- packets in order
 
--- ---- an ordering makes the answer
+module _ (l : List Packet) (e : numbers l ≡ counting 1 (length l)) where
+  pub reads-twice : firstTwice (numbers l) ≡ Nothing
+  reads-twice = twice-none (numbers l) (λ q. rw (ap (count q) e) (once 1 (length l) q))
 
-module _ (ps l : List Packet) (h : Reordered ps l) (e : numbers l ≡ counting 1 (length ps)) where
-  reads-count : (q : ℕ) → count q (numbers ps) ≡ count q (counting 1 (length ps))
-  reads-count q = same-count h q ∙ ap (count q) e
-
-  reads-once : (q : ℕ) → count q (numbers ps) ≤ 1
-  reads-once q = rw (reads-count q) (once 1 (length ps) q)
-
-  pub reads-twice : firstTwice (numbers ps) ≡ Nothing
-  reads-twice = twice-none (numbers ps) reads-once
-
-  pub reads-missing : firstMissing (numbers ps) ≡ Nothing
+  pub reads-missing : firstMissing (numbers l) ≡ Nothing
   unfolding firstMissing
-  reads-missing = rw (numbers-length ps) (missing-none (numbers ps) (length ps) 1 (λ j u v. rw (reads-count j) (there 1 (length ps) j u v)))
+  reads-missing = rw (numbers-length l) (missing-none (numbers l) (length l) 1 (λ j u v. rw (ap (count j) e) (there 1 (length l) j u v)))
 
-  pub reads-joined : joined ps ≡ payloads l
+  pub reads-joined : joined l ≡ payloads l
   unfolding joined
-  reads-joined = same-joined ps l (length ps) 1 (λ j g. same-numbered h j (reads-once j)) ∙ joined-reads l 1 (length ps) e
+  reads-joined = joined-reads l 1 (length l) e
 
-  pub reads-total : length (joined ps) ≡ total ps
-  reads-total = rw reads-joined (payloads-total l ∙ sym (same-total h))
+-- packets whose ordering reads 1, 2, ..
+module _ (ps l : List Packet) (h : Reordered ps l) (e : numbers l ≡ counting 1 (length ps)) where
+  ordered : numbers l ≡ counting 1 (length l)
+  ordered = e ∙ ap (counting 1) (same-length h)
+
+  order-joined : joined ps ≡ payloads l
+  order-joined = joined-kept h (twice-kept h ∙ reads-twice l ordered) ∙ reads-joined l ordered
 
 -- ---- the ordering that is there when no number stands twice and none is missing
 
@@ -276,57 +215,34 @@ pub sorted-makes : (ps : List Packet) → firstTwice (numbers ps) ≡ Nothing �
 sorted-makes ps t m = sorts-all ps (each-once ps t m)
 
 pub fine-total : (ps : List Packet) → firstTwice (numbers ps) ≡ Nothing → firstMissing (numbers ps) ≡ Nothing → length (joined ps) ≡ total ps
-fine-total ps t m = let s = sorted-makes ps t m in reads-total ps (sorted (length ps) 1 ps) (s .0) (s .1)
+fine-total ps t m =
+    let l : List Packet = sorted (length ps) 1 ps in
+    let s = sorted-makes ps t m in
+    ap length (order-joined ps l (s .0) (s .1)) ∙ payloads-total l ∙ sym (same-total (s .0))
 
 -- ---- the law, for a list of packets
 
-pub alike-contents : (h g : Head) → alike h g ≡ true → contents g ≡ contents h
-unfolding alike contents
-alike-contents h g e =
-    let s : g .stated ≡ h .stated = eqb-true (g .stated) (h .stated) (cond-left (eqb (g .stated) (h .stated)) (eqb (g .heading) (h .heading)) e) in
-    let t : g .heading ≡ h .heading = eqb-true (g .heading) (h .heading) (cond-right (eqb (g .stated) (h .stated)) (eqb (g .heading) (h .heading)) e) in
-    ap₂ (λ (x y : ℕ). x - y) s t
-
--- who agrees with one head agrees with each that it is alike
-alike-alike : (h g k : Head) → alike h g ≡ true → alike h k ≡ alike g k
-unfolding alike
-alike-alike h g k e =
-    let s : g .stated ≡ h .stated = eqb-true (g .stated) (h .stated) (cond-left (eqb (g .stated) (h .stated)) (eqb (g .heading) (h .heading)) e) in
-    let t : g .heading ≡ h .heading = eqb-true (g .heading) (h .heading) (cond-right (eqb (g .stated) (h .stated)) (eqb (g .heading) (h .heading)) e) in
-    ap₂ (λ (x y : ℕ). cond (eqb (k .stated) x) (eqb (k .heading) y) false) (sym s) (sym t)
-
-pub alike-agree : (h g : Head) (ps : List Packet) → alike h g ≡ true → agree h ps ≡ agree g ps
-unfolding agree
-alike-agree h g [] e = refl
-alike-agree h g (p ∷ r) e = rw (alike-alike h g (p .head) e, alike-agree h g r e)
-
--- an ordering that makes a box: these are the bytes, given room
-made-assembled : (ps l : List Packet) (h : Head) (room : ℕ) → Makes ps l h → length (payloads l) ≤ room → assembled room h ps ≡ given (payloads l)
-unfolding assembled
-made-assembled ps l h room f k =
-    let sum : total ps ≡ contents h = same-total (f .all) ∙ sym (payloads-total l) ∙ f .fills in
+-- packets in order, all of which state what h states: these are the bytes, given room
+ordered-given : (p : Packet) (r : List Packet) (h : Head) (room : ℕ) → numbers (p ∷ r) ≡ counting 1 (length (p ∷ r)) → agree h (p ∷ r) ≡ true
+    → length (payloads (p ∷ r)) ≡ contents h → length (payloads (p ∷ r)) ≤ room → assemble room (p ∷ r) ≡ given (payloads (p ∷ r))
+unfolding assemble assembled
+ordered-given p r h room e a f k =
+    let g : alike h (p .head) ≡ true = first-alike h p r a in
+    let sum : total (p ∷ r) ≡ contents (p .head) = sym (payloads-total (p ∷ r)) ∙ f ∙ sym (alike-contents h (p .head) g) in
     rw (
-      same-agree (f .all) h,
-      f .one,
-      reads-twice ps l (f .all) (f .reads),
-      reads-missing ps l (f .all) (f .reads),
-      eq-eqb (total ps) (contents h) sum,
-      reads-joined ps l (f .all) (f .reads),
+      sym (alike-agree h (p .head) (p ∷ r) g) ∙ a,
+      reads-twice (p ∷ r) e,
+      reads-missing (p ∷ r) e,
+      eq-eqb (total (p ∷ r)) (contents (p .head)) sum,
+      reads-joined (p ∷ r) e,
     )
-    (fits room (payloads l) k)
+    (fits room (payloads (p ∷ r)) k)
 
-pub first-alike : (h : Head) (p : Packet) (r : List Packet) → agree h (p ∷ r) ≡ true → alike h (p .head) ≡ true
-unfolding agree
-first-alike h p r a = cond-left (alike h (p .head)) (agree h r) a
-
-makes-given : (p : Packet) (r l : List Packet) (h : Head) (room : ℕ) → Makes (p ∷ r) l h → length (payloads l) ≤ room → assemble room (p ∷ r) ≡ given (payloads l)
-unfolding assemble
-makes-given p r l h room f k =
-    let a : agree h (p ∷ r) ≡ true = same-agree (f .all) h ∙ f .one in
-    let e : alike h (p .head) ≡ true = first-alike h p r a in
-    made-assembled (p ∷ r) l (p .head) room
-    (record { all = f .all; reads = f .reads; one = sym (alike-agree h (p .head) l e) ∙ f .one; fills = f .fills ∙ sym (alike-contents h (p .head) e) })
-    k
+-- an ordering that makes a box: the answer is that of the ordering
+makes-given : (ps l : List Packet) (h : Head) (room : ℕ) → 0 < length ps → Makes ps l h → length (payloads l) ≤ room → assemble room ps ≡ given (payloads l)
+makes-given ps [] h room s f k = absurd (omega (arith, same-length (f .all)))
+makes-given ps (p ∷ r) h room s f k =
+    same-assemble room ps (p ∷ r) (f .all) ∙ ordered-given p r h room (ordered ps (p ∷ r) (f .all) (f .reads)) (f .one) (f .fills) k
 
 -- the tests that were passed, from the bytes
 record Passed (room : ℕ) (h : Head) (ps : List Packet) (b : List ℕ) : Type 0 where
@@ -364,7 +280,7 @@ given-makes p r room b e =
         one = sym (same-agree (s .0) (p .head)) ∙ t .same;
         fills = payloads-total l ∙ sym (same-total (s .0)) ∙ t .sum;
       },
-      t .out ∙ reads-joined ps l (s .0) (s .1),
+      t .out ∙ order-joined ps l (s .0) (s .1),
       t .within,
     )
 
@@ -373,12 +289,10 @@ given-makes p r room b e =
 -- where that sentence hands out bytes, the call does
 pub handed-given : (file : List ℕ) (kind instance room : ℕ) (b : List ℕ) → HandedOut file kind instance room b → boxBytes file kind instance room ≡ given b
 unfolding boxBytes
-handed-given file kind instance room b h = rw (h .well) (go (mine kind instance (packets file)) (h .some) (h .makes))
-  where
-    go : (ps : List Packet) → 0 < length ps → Makes ps (h .order) (h .stated) → assemble room ps ≡ given b
-    go [] s m = absurd (omega arith)
-    go (p ∷ r) s m =
-        makes-given p r (h .order) (h .stated) room m (subst (λ (x : List ℕ). length x ≤ room) (h .bytes) (h .fits)) ∙ ap given (sym (h .bytes))
+handed-given file kind instance room b h =
+    rw (h .well)
+    (makes-given (mine kind instance (packets file)) (h .order) (h .stated) room (h .some) (h .makes) (subst (λ (x : List ℕ). length x ≤ room) (h .bytes) (h .fits))
+    ∙ ap given (sym (h .bytes)))
 
 -- where the call hands out bytes, that sentence does
 pub given-handed : (file : List ℕ) (kind instance room : ℕ) (b : List ℕ) → boxBytes file kind instance room ≡ given b → HandedOut file kind instance room b
@@ -409,4 +323,4 @@ pub one-answer : (file : List ℕ) (kind instance room : ℕ) (b c : List ℕ) �
 one-answer file kind instance room b c g h = let e = sym (handed-given file kind instance room b g) ∙ handed-given file kind instance room c h in cc
 
 pub one-order : (ps l m : List Packet) (h g : Head) → Makes ps l h → Makes ps m g → payloads l ≡ payloads m
-one-order ps l m h g a b = sym (reads-joined ps l (a .all) (a .reads)) ∙ reads-joined ps m (b .all) (b .reads)
+one-order ps l m h g a b = sym (order-joined ps l (a .all) (a .reads)) ∙ order-joined ps m (b .all) (b .reads)

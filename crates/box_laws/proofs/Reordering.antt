@@ -1,25 +1,113 @@
 -- The answer for packets does not move with their order: its number, its place and its bytes. Assumes nothing.
-use Prim.Native.Nat.{ℕ, zero, suc, _≤_}
+use Prim.Native.Nat.{ℕ, zero, suc, _-_, _≤_}
 use mathlib.Core.Path.{_≡_, refl, ap, ap₂, sym, _∙_}
 use mathlib.Core.Logic.{⊎-elim}
-use mathlib.Core.List.{List, [], _∷_}
-use mathlib.Core.Bool.{true, false}
+use mathlib.Core.List.{List, [], _∷_, _++_}
+use mathlib.Core.Bool.{Bool, true, false, cond}
 use native.Mathlib.Omega.{arith}
 use lib.ListN.{length}
 use lib.Dec.{eqb}
+use borrow.Author.Tests.{eqb-true}
 use Rattle.laws.specs.declared.Found.{Found}
 use Rattle.laws.specs.declared.Found.the-variants.{At, Nothing}
-use Rattle.laws.proofs.Choices.{either, true-false}
+use Rattle.laws.proofs.Choices.{either, cond-left, cond-right, cond-swap, true-false}
 use Rattle.answers.specs.Verdict.{Verdict, refused, refusal, need, unless, fitting}
 use Rattle.answers.specs.declared.Outcome.{Outcome}
 use Rattle.box_rules.specs.declared.Head.{Head}
 use Rattle.box_rules.specs.Walk.{walk, ending}
 use Rattle.box_rules.specs.Packets.{Packet, packets, mine}
 use Rattle.box_rules.specs.Numbers.{numbers, count, firstTwice, missingFrom, firstMissing}
-use Rattle.box_rules.specs.Box.{alike, agree, contents, total, joinedFrom, joined, assembled, assemble, afterWalk, boxBytes}
-use Rattle.box_rules.specs.Order.{Reordered}
+use Rattle.box_rules.specs.Box.{alike, agree, contents, total, numbered, joinedFrom, joined, assembled, assemble, afterWalk, boxBytes}
+use Rattle.box_rules.proofs.Counts.{count-grows}
+use Rattle.box_rules.specs.Order.{Reordered, none, keep, swap, both}
 use Rattle.box_laws.proofs.Smallest.{never-twice, smallest-twice, twice-none, twice-is}
-use Rattle.box_laws.proofs.Order.{same-count, same-agree, same-total, same-length, same-numbered, same-joined, numbers-length, alike-contents, alike-agree, first-alike}
+
+-- ---- what an ordering keeps
+
+swap-count : (x y : Bool) (c : ℕ) → cond x (suc (cond y (suc c) c)) (cond y (suc c) c) ≡ cond y (suc (cond x (suc c) c)) (cond x (suc c) c)
+swap-count true true c = refl
+swap-count true false c = refl
+swap-count false true c = refl
+swap-count false false c = refl
+
+same-count : {a b : List Packet} → Reordered a b → (q : ℕ) → count q (numbers a) ≡ count q (numbers b)
+unfolding numbers count
+same-count none q = refl
+same-count (keep h) q = rw (same-count h q)
+same-count (swap {p} {q = r} {a}) q = swap-count (eqb (p .head .number) q) (eqb (r .head .number) q) (count q (numbers a))
+same-count (both g h) q = same-count g q ∙ same-count h q
+
+pub same-agree : {a b : List Packet} → Reordered a b → (h : Head) → agree h a ≡ agree h b
+unfolding agree
+same-agree none h = refl
+same-agree (keep g) h = rw (same-agree g h)
+same-agree (swap {p} {q = r} {a}) h = cond-swap (alike h (p .head)) (alike h (r .head)) (agree h a)
+same-agree (both f g) h = same-agree f h ∙ same-agree g h
+
+pub same-total : {a b : List Packet} → Reordered a b → total a ≡ total b
+unfolding total
+same-total none = refl
+same-total (keep h) = rw (same-total h)
+same-total swap = omega arith
+same-total (both g h) = same-total g ∙ same-total h
+
+pub same-length : {a b : List Packet} → Reordered a b → length a ≡ length b
+same-length none = refl
+same-length (keep h) = rw (same-length h)
+same-length swap = refl
+same-length (both g h) = same-length g ∙ same-length h
+
+swap-numbered : (x y : Bool) (c : ℕ) (p r n : List ℕ) → cond x (suc (cond y (suc c) c)) (cond y (suc c) c) ≤ 1
+    → cond x (p ++ cond y (r ++ n) n) (cond y (r ++ n) n) ≡ cond y (r ++ cond x (p ++ n) n) (cond x (p ++ n) n)
+swap-numbered true true c p r n h = absurd (omega arith)
+swap-numbered true false c p r n h = refl
+swap-numbered false true c p r n h = refl
+swap-numbered false false c p r n h = refl
+
+same-numbered : {a b : List Packet} → Reordered a b → (q : ℕ) → count q (numbers a) ≤ 1 → numbered q a ≡ numbered q b
+unfolding numbered numbers count
+same-numbered none q h = refl
+same-numbered (keep {p} {a} g) q h = rw (same-numbered g q (omega (arith, count-grows (p .head .number) q (numbers a))))
+same-numbered (swap {p} {q = r} {a}) q h =
+    swap-numbered (eqb (p .head .number) q) (eqb (r .head .number) q) (count q (numbers a)) (p .payload) (r .payload) (numbered q a) h
+same-numbered (both f g) q h = same-numbered f q h ∙ same-numbered g q (omega (arith, same-count f q))
+
+-- joined looks only at the numbers from a on
+pub same-joined : (x y : List Packet) (k a : ℕ) → ((j : ℕ) → a ≤ j → numbered j x ≡ numbered j y) → joinedFrom k a x ≡ joinedFrom k a y
+unfolding joinedFrom
+same-joined x y zero a h = refl
+same-joined x y (suc k) a h = rw (h a (omega arith), same-joined x y k (suc a) (λ j g. h j (omega arith)))
+
+pub numbers-length : (a : List Packet) → length (numbers a) ≡ length a
+unfolding numbers
+numbers-length [] = refl
+numbers-length (p ∷ a) = ap suc (numbers-length a)
+
+-- ---- which head the stated length is compared with
+
+pub alike-contents : (h g : Head) → alike h g ≡ true → contents g ≡ contents h
+unfolding alike contents
+alike-contents h g e =
+    let s : g .stated ≡ h .stated = eqb-true (g .stated) (h .stated) (cond-left (eqb (g .stated) (h .stated)) (eqb (g .heading) (h .heading)) e) in
+    let t : g .heading ≡ h .heading = eqb-true (g .heading) (h .heading) (cond-right (eqb (g .stated) (h .stated)) (eqb (g .heading) (h .heading)) e) in
+    ap₂ (λ (x y : ℕ). x - y) s t
+
+-- who agrees with one head agrees with each that it is alike
+alike-alike : (h g k : Head) → alike h g ≡ true → alike h k ≡ alike g k
+unfolding alike
+alike-alike h g k e =
+    let s : g .stated ≡ h .stated = eqb-true (g .stated) (h .stated) (cond-left (eqb (g .stated) (h .stated)) (eqb (g .heading) (h .heading)) e) in
+    let t : g .heading ≡ h .heading = eqb-true (g .heading) (h .heading) (cond-right (eqb (g .stated) (h .stated)) (eqb (g .heading) (h .heading)) e) in
+    ap₂ (λ (x y : ℕ). cond (eqb (k .stated) x) (eqb (k .heading) y) false) (sym s) (sym t)
+
+pub alike-agree : (h g : Head) (ps : List Packet) → alike h g ≡ true → agree h ps ≡ agree g ps
+unfolding agree
+alike-agree h g [] e = refl
+alike-agree h g (p ∷ r) e = rw (alike-alike h g (p .head) e, alike-agree h g r e)
+
+pub first-alike : (h : Head) (p : Packet) (r : List Packet) → agree h (p ∷ r) ≡ true → alike h (p .head) ≡ true
+unfolding agree
+first-alike h p r a = cond-left (alike h (p .head)) (agree h r) a
 
 -- ---- 6 and 7 look at numbers only through how often each stands
 
@@ -43,7 +131,7 @@ abbrev rest : ℕ → Head → List Packet → Verdict ℕ
 rest room k ps = unless 7 (firstMissing (numbers ps)) (need (eqb (total ps) (contents k)) 8 (total ps) (fitting room (joined ps)))
 
 module _ {a b : List Packet} (h : Reordered a b) where
-  twice-kept : firstTwice (numbers a) ≡ firstTwice (numbers b)
+  pub twice-kept : firstTwice (numbers a) ≡ firstTwice (numbers b)
   twice-kept = twice-by-count (numbers a) (numbers b) (same-count h)
 
   missing-kept : firstMissing (numbers a) ≡ firstMissing (numbers b)
@@ -52,7 +140,7 @@ module _ {a b : List Packet} (h : Reordered a b) where
       let n : length (numbers a) ≡ length (numbers b) = numbers-length a ∙ same-length h ∙ sym (numbers-length b) in
       rw n (missing-by-count (numbers a) (numbers b) (same-count h) (length (numbers b)) 1)
 
-  joined-kept : firstTwice (numbers a) ≡ Nothing → joined a ≡ joined b
+  pub joined-kept : firstTwice (numbers a) ≡ Nothing → joined a ≡ joined b
   unfolding joined
   joined-kept t =
       same-joined a b (length a) 1 (λ j g. same-numbered h j (never-twice (numbers a) t j)) ∙ ap (λ (n : ℕ). joinedFrom n 1 b) (same-length h)

@@ -1,7 +1,7 @@
 -- Who is a stranger to a type and instance (P24), and segments of two files that are the same for it: worked out by hand. Assumes nothing.
 use Prim.Native.Nat.{ℕ}
 use mathlib.Core.Path.{refl}
-use mathlib.Core.List.{List, [], _∷_}
+use mathlib.Core.List.{[], _∷_}
 use native.Mathlib.Omega.{arith}
 use Rattle.box_rules.specs.Layout.{Part, packed, other, Stranger, SameFor, empty, shared, here, there, exchanged, through}
 

@@ -12,12 +12,12 @@ use Rattle.box_rules.specs.Packets.{Packet, packetsIn, packets, isMine, mine}
 use Rattle.box_rules.specs.Numbers.{numbers, count, least, firstTwice, missingFrom, firstMissing}
 use Rattle.box_rules.specs.Box.{alike, agree, contents, total, numbered, joinedFrom, joined, assembled, assemble, boxBytes}
 use Rattle.box_rules.specs.Order.{Reordered, swap}
-use Rattle.box_rules.specs.Layout.{Part, packed, other, Boxed, Plain, two, four, segment, inner, bytesOf, allBytes, laidOut, packetsOf, AllSound, SameFor, empty, shared, here, there, exchanged, through}
+use Rattle.box_rules.specs.Layout.{Part, packed, other, Boxed, Plain, two, four, segment, inner, bytesOf, allBytes, laidOut, AllSound, SameFor, empty, shared, there, exchanged, through}
 use Rattle.box_rules.proofs.Strangers.{self, same-for}
 use Rattle.box_laws.proofs.Reordering.{same-answer}
 use Rattle.box_laws.proofs.Written.{laid-out}
 use Rattle.demands.specs.Cases.{resultOf, lpts}
-use Rattle.demands.specs.Practice.{EndsWell, own, Same, AnsweredAlike, PracticeApart, live, strangerInFront, strangerBetween, strangerBehind, practiceBetween, backward, elsewhere, PracticeHolds, StillLive, PracticeShown}
+use Rattle.demands.specs.Practice.{EndsWell, own, AnsweredAlike, PracticeApart, live, strangerInFront, strangerBetween, strangerBehind, practiceBetween, backward, elsewhere, PracticeHolds, StillLive, PracticeShown}
 use Rattle.demands.proofs.Shams.{one-outcome}
 
 -- ---- the law

@@ -21,7 +21,8 @@ use Rattle.box_laws.proofs.Smallest.{pigeonhole}
 use Rattle.scans.specs.declared.Fault.the-variants.{Fine, Twice, Missing}
 use Rattle.box_rules.specs.Box.{agree, contents, total, joined, assembled, assemble, boxBytes}
 use Rattle.scans.specs.Code.{inOrder, mineOf, faultOf}
-use Rattle.box_laws.proofs.Order.{numbers-length, fine-total}
+use Rattle.box_laws.proofs.Reordering.{numbers-length}
+use Rattle.box_laws.proofs.Order.{fine-total}
 use Rattle.scans.proofs.Faults.{fault-fine, fault-twice, fault-missing, told-fine, told-twice, told-missing}
 use Rattle.scans.proofs.InOrder.{order-twice, order-missing}
 

@@ -14,9 +14,9 @@ use Rattle.box_rules.specs.Numbers.{numbers, count, firstTwice, firstMissing}
 use Rattle.box_laws.proofs.Smallest.{twice-none}
 use Rattle.box_rules.specs.Box.{joined}
 use Rattle.box_rules.specs.Order.{counting, payloads}
-use Rattle.box_rules.proofs.Strangers.{self}
 use Rattle.scans.specs.Code.{inOrder, rises}
-use Rattle.box_laws.proofs.Order.{low, numbers-length, reads-joined, reads-missing, reads-twice}
+use Rattle.box_laws.proofs.Reordering.{numbers-length}
+use Rattle.box_laws.proofs.Order.{low, reads-joined, reads-missing, reads-twice}
 
 order-reads : (ns : List ℕ) (q : ℕ) → inOrder q ns ≡ true → ns ≡ counting q (length ns)
 unfolding inOrder counting
@@ -30,13 +30,13 @@ module _ (ps : List Packet) (h : inOrder 1 (numbers ps) ≡ true) where
   in-order = order-reads (numbers ps) 1 h ∙ ap (counting 1) (numbers-length ps)
 
   pub order-twice : firstTwice (numbers ps) ≡ Nothing
-  order-twice = reads-twice ps ps (self ps) in-order
+  order-twice = reads-twice ps in-order
 
   pub order-missing : firstMissing (numbers ps) ≡ Nothing
-  order-missing = reads-missing ps ps (self ps) in-order
+  order-missing = reads-missing ps in-order
 
   pub order-joined : joined ps ≡ payloads ps
-  order-joined = reads-joined ps ps (self ps) in-order
+  order-joined = reads-joined ps in-order
 
 -- numbers that rise: none stands twice
 rises-from : (ns : List ℕ) (a : ℕ) → rises a ns ≡ true → (q : ℕ) → (count q ns ≤ 1) × (q < a → count q ns ≡ 0)
