@@ -79,7 +79,8 @@ static inline const char *xt_meaning(uint32_t number)
 /* ---- boxes */
 
 /* C3: `type` is its four bytes as a number, LPTS is 0x4C505453. The bytes of one box, assembled from its packets in any file
- * order. Takes 128 KiB of stack, no other call takes as much. */
+ * order; in a file that can be walked through, boxes of another type or instance change nothing (D6). Takes 128 KiB of stack,
+ * no other call takes as much. */
 uint32_t xt_box_bytes(const uint8_t *file, size_t file_len, uint32_t type, uint16_t instance,
                       uint8_t *destination, size_t destination_len, uint64_t *place);
 

@@ -79,7 +79,7 @@ fn done(number: u32, place: u64) -> Result<usize, Error> {
     }
 }
 
-/// The bytes of one box, assembled from its packets; `kind` is the type's four bytes.
+/// The bytes of one box, assembled from its packets; `kind` is the type's four bytes. In a file that can be walked through, boxes of another type or instance change nothing.
 pub fn box_bytes(file: &[u8], kind: [u8; 4], instance: u16, destination: &mut [u8]) -> Result<usize, Error> {
     let mut place = 0;
     // SAFETY: each pointer stands with its own slice's length, and the call writes only to the destination and the place.

@@ -1,4 +1,4 @@
-//! The whiteboard's readings (docs/RULES.md, S1 to S5, S7 and S8) through the Rust calls, and a round trip.
+//! The whiteboard's readings (docs/RULES.md, S1 to S5, S7 and S8) and practice beside live (S10) through the Rust calls, and a round trip.
 use auhowipi::*;
 
 const LPTS: [u8; 4] = *b"LPTS";
@@ -45,6 +45,27 @@ fn two_packets_numbered_one() {
     assert_eq!(refused(box_bytes(&missing, LPTS, 1, &mut bytes)), (7, 2));
     assert_eq!(bytes, [0; 8]);
     assert_eq!(Error { number: 6, place: 1 }.to_string(), "two packets claim the same sequence number (6, place 1)");
+}
+
+fn packet(instance: u16, number: u32, payload: &[u8]) -> Vec<u8> {
+    let size = 18 + payload.len() as u16;
+    [&[0xFF, 0xEB][..], &size.to_be_bytes(), b"JP", &instance.to_be_bytes(), &number.to_be_bytes(), &12u32.to_be_bytes(), &LPTS, payload].concat()
+}
+
+#[test]
+fn practice_beside_live() {
+    let (first, second, practice, intruder) = (packet(1, 1, b"9."), packet(1, 2, b"58"), packet(2, 1, b"9.99"), packet(1, 1, b"9.99"));
+    let file = |segments: &[&[u8]]| [&[0xFF, 0xD8][..], &segments.concat(), &[0xFF, 0xDA]].concat();
+    for segments in [&[&first[..], &second][..], &[&practice, &first, &second], &[&first, &practice, &second], &[&second, &first, &practice]] {
+        let mut bytes = [46u8; 6];
+        assert_eq!(box_bytes(&file(segments), LPTS, 1, &mut bytes), Ok(4));
+        assert_eq!(&bytes, b"9.58..");
+    }
+    let mut bytes = [46u8; 6];
+    assert_eq!(box_bytes(&file(&[&first, &practice, &second]), LPTS, 2, &mut bytes), Ok(4));
+    assert_eq!(&bytes, b"9.99..");
+    assert_eq!(refused(box_bytes(&file(&[&first, &second, &intruder]), LPTS, 1, &mut bytes)), (6, 1));
+    assert_eq!(bytes, [0; 6]);
 }
 
 const COUNTS: [u8; 16] = [0, 3, 0, 0, 0, 0, 0, 0, 0, 0, 0, 0, 0, 0, 0, 0];

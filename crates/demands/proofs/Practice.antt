@@ -4,7 +4,7 @@ use mathlib.Core.Logic.{inr}
 use mathlib.Core.List.{List, [], _∷_}
 use Prim.Native.Nat.{ℕ, _≤_}
 use native.Mathlib.Omega.{arith}
-use lib.ListN.{length}
+use lib.ListN.{length, replicate}
 use Rattle.answers.specs.Verdict.{Verdict, Meets}
 use Rattle.answers.specs.declared.Answer.{Answer}
 use Rattle.box_rules.specs.Walk.{be16, be32, headAt, ones, barred, tagged, packetAt, wholeAt, sizedAt, markedAt, stepAt, stepsIn, stepsFrom, begins, walk, ending}
@@ -17,7 +17,7 @@ use Rattle.box_rules.proofs.Strangers.{self, same-for}
 use Rattle.box_laws.proofs.Reordering.{same-answer}
 use Rattle.box_laws.proofs.Written.{laid-out}
 use Rattle.demands.specs.Cases.{resultOf, lpts}
-use Rattle.demands.specs.Practice.{EndsWell, own, AnsweredAlike, PracticeApart, live, strangerInFront, strangerBetween, strangerBehind, practiceBetween, backward, elsewhere, PracticeHolds, StillLive, PracticeShown}
+use Rattle.demands.specs.Practice.{EndsWell, own, AnsweredAlike, PracticeApart, live, strangerInFront, strangerBetween, strangerBehind, practiceBetween, backward, elsewhere, lost, lostBeside, PracticeHolds, dots, Answers, StillLive, PracticeShown}
 use Rattle.demands.proofs.Shams.{one-outcome}
 
 -- ---- the law
@@ -26,9 +26,9 @@ module _ (kind instance : ℕ) (file file′ : List ℕ) (w : EndsWell file) (w�
   in-any-order : Reordered (own kind instance file) (own kind instance file′) → AnsweredAlike kind instance file file′
   in-any-order h before after after′ answer answer′ m m′ =
       let v : boxBytes file kind instance (length before) ≡ boxBytes file′ kind instance (length before) = same-answer file file′ kind instance (length before) (w ∙ sym w′) h in
-      let one = one-outcome ℕ 0 (boxBytes file′ kind instance (length before)) before after after′ answer answer′
+      let same = one-outcome ℕ 0 (boxBytes file′ kind instance (length before)) before after after′ answer answer′
       (subst (λ (x : Verdict ℕ). Meets 0 x before after answer) v m) m′ in
-      record { number = ap (λ (a : Answer). a .number) (one .0); place = ap (λ (a : Answer). a .place) (one .0); bytes = one .1 }
+      record { number = ap (λ (a : Answer). a .number) (same .0); place = ap (λ (a : Answer). a .place) (same .0); bytes = same .1 }
 
   in-one-order : own kind instance file ≡ own kind instance file′ → AnsweredAlike kind instance file file′
   in-one-order e = in-any-order (subst (Reordered (own kind instance file)) e (self (own kind instance file)))
@@ -52,20 +52,26 @@ practice-holds = refl
 
 -- ---- the same by the law
 
--- a call on the live picture
-live-met : Meets 0 (boxBytes live lpts 1 6) (0x2E ∷ 0x2E ∷ 0x2E ∷ 0x2E ∷ 0x2E ∷ 0x2E ∷ []) (0x39 ∷ 0x2E ∷ 0x35 ∷ 0x38 ∷ 0x2E ∷ 0x2E ∷ []) (record { number = 0; place = 4 })
+-- a call on the live picture, and on the one that lost a packet
+met : Meets 0 (boxBytes live lpts 1 6) dots (0x39 ∷ 0x2E ∷ 0x35 ∷ 0x38 ∷ 0x2E ∷ 0x2E ∷ []) (record { number = 0; place = 4 })
+    × Meets 0 (boxBytes lost lpts 1 6) dots (replicate 6 0) (record { number = 7; place = 1 })
 unfolding be16 be32 headAt ones barred tagged packetAt wholeAt sizedAt markedAt stepAt stepsIn stepsFrom begins walk ending packetsIn packets isMine mine
     numbers count least firstTwice missingFrom firstMissing alike agree contents total numbered joinedFrom joined assembled assemble boxBytes
-live-met = record { answered = refl; held = refl }
+met = (record { answered = refl; held = refl }, record { answered = refl; held = refl })
 
-still : (file : List ℕ) → AnsweredAlike lpts 1 live file → StillLive file
-still file alike after answer m =
-    let s = alike _ _ after _ answer live-met m in
+-- what a call on one file comes to, a call on another that is answered alike comes to
+still : (file file′ : List ℕ) (number place : ℕ) (left : List ℕ) → Meets 0 (boxBytes file lpts 1 6) dots left (record { number = number; place = place })
+    → AnsweredAlike lpts 1 file file′ → Answers file′ number place left
+still file file′ number place left m alike after answer m′ =
+    let s = alike dots left after _ answer m m′ in
     (sym (s .number), sym (s .place), sym (s .bytes))
 
--- the walk over a file ends well and meets the packets of the live picture
-by-strangers : (file : List ℕ) → EndsWell live → EndsWell file → own lpts 1 live ≡ own lpts 1 file → StillLive file
-by-strangers file w w′ e = still file (practice-apart .strangers lpts 1 live file w w′ e)
+still-live : (file : List ℕ) → AnsweredAlike lpts 1 live file → StillLive file
+still-live file = still live file 0 4 _ (met .0)
+
+-- walks that end well, and the same packets
+by-strangers : (file file′ : List ℕ) → EndsWell file → EndsWell file′ → own lpts 1 file ≡ own lpts 1 file′ → AnsweredAlike lpts 1 file file′
+by-strangers = practice-apart .strangers lpts 1
 
 -- ---- the last picture as a writer lays it out
 
@@ -133,11 +139,12 @@ elsewhere-alike =
 pub practice-shown : PracticeShown
 unfolding be16 be32 headAt ones barred tagged packetAt wholeAt sizedAt markedAt stepAt stepsIn stepsFrom begins walk ending packetsIn packets isMine mine
 practice-shown = record {
-  inFront = by-strangers strangerInFront refl refl refl;
-  between = by-strangers strangerBetween refl refl refl;
-  behind = by-strangers strangerBehind refl refl refl;
-  practised = by-strangers practiceBetween refl refl refl;
-  turned = still backward (practice-apart .order lpts 1 live backward refl refl swap);
-  moved = still elsewhere elsewhere-alike;
+  inFront = still-live strangerInFront (by-strangers live strangerInFront refl refl refl);
+  between = still-live strangerBetween (by-strangers live strangerBetween refl refl refl);
+  behind = still-live strangerBehind (by-strangers live strangerBehind refl refl refl);
+  practised = still-live practiceBetween (by-strangers live practiceBetween refl refl refl);
+  turned = still-live backward (practice-apart .order lpts 1 live backward refl refl swap);
+  moved = still-live elsewhere elsewhere-alike;
+  gone = still lost lostBeside 7 1 _ (met .1) (by-strangers lost lostBeside refl refl refl);
   listed = refl;
 }

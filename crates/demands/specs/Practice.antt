@@ -2,7 +2,7 @@
 use mathlib.Core.Path.{_≡_}
 use mathlib.Core.List.{List, [], _∷_}
 use Prim.Native.Nat.{ℕ}
-use lib.ListN.{length}
+use lib.ListN.{length, replicate}
 use Rattle.answers.specs.Verdict.{given, refused, refusal, Meets}
 use Rattle.answers.specs.declared.Answer.{Answer}
 use Rattle.answers.specs.declared.Outcome.the-variants.{Given}
@@ -173,11 +173,19 @@ PracticeHolds = Hold practiceCases
 
 -- ---- the same by the law, which would not give it if it said less
 
--- S10: whoever meets the promise on this file, lent six bytes 2E, answers 0, place 4, and leaves 9.58 in front of the last two
+-- S10: six bytes 2E, lent to each call
+abbrev pub dots : List ℕ
+dots = replicate 6 0x2E
+
+-- S10: whoever meets the promise on this file answers with this number and place, and leaves these bytes
+abbrev pub Answers : List ℕ → ℕ → ℕ → List ℕ → Type 0
+Answers file number place left =
+    (after : List ℕ) (answer : Answer) → Meets 0 (boxBytes file lpts 1 6) dots after answer
+    → (answer .number ≡ number) × (answer .place ≡ place) × (after ≡ left)
+
+-- S10: 9.58, in front of two that are kept
 abbrev pub StillLive : List ℕ → Type 0
-StillLive file =
-    (after : List ℕ) (answer : Answer) → Meets 0 (boxBytes file lpts 1 6) (0x2E ∷ 0x2E ∷ 0x2E ∷ 0x2E ∷ 0x2E ∷ 0x2E ∷ []) after answer
-    → (answer .number ≡ 0) × (answer .place ≡ 4) × (after ≡ 0x39 ∷ 0x2E ∷ 0x35 ∷ 0x38 ∷ 0x2E ∷ 0x2E ∷ [])
+StillLive file = Answers file 0 4 (0x39 ∷ 0x2E ∷ 0x35 ∷ 0x38 ∷ 0x2E ∷ 0x2E ∷ [])
 
 -- S10: so it is in each of them
 pub record PracticeShown : Type 0 where
@@ -187,4 +195,5 @@ pub record PracticeShown : Type 0 where
   pub practised : StillLive practiceBetween
   pub turned : StillLive backward
   pub moved : StillLive elsewhere
+  pub gone : Answers lostBeside 7 1 (replicate 6 0)
   pub listed : length practiceCases ≡ 14
