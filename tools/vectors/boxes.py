@@ -55,7 +55,8 @@ def laid(segments, rnd, behind):
 
 
 def practice_beside_live():
-    """A8: a file, the same with strangers, other fill and other bytes behind SOS, and that in another order: what is expected of all three is what the first one gives."""
+    """A8: a file, the same with strangers, comments that hold a packet of the box, other fill and other bytes behind SOS, and that in another order: what is
+    expected of all three is what the first one gives."""
     rnd = random.Random(8)
     some = lambda n: bytes(rnd.randrange(256) for _ in range(rnd.randrange(n)))
     for _ in range(45):
@@ -67,11 +68,12 @@ def practice_beside_live():
         for _ in range(rnd.randrange(1, 6)):
             instance, kind = rnd.choice([(2, b'LPTS'), (1, b'FINE'), (0x0100, b'LPTS'), (1, b'LPTT')])
             stranger = packet(rnd.choice(numbers), some(5), rnd.choice([8, lbox]), instance, kind, 0)
-            beside.insert(rnd.randrange(len(beside) + 1), rnd.choice([stranger, stranger, b'\xe0' + struct.pack('>H', 4) + b'hi']))
+            held = b'\xff' + rnd.choice(own)
+            beside.insert(rnd.randrange(len(beside) + 1), rnd.choice([stranger, stranger, b'\xfe' + struct.pack('>H', 2 + len(held)) + held]))
         moved = rnd.sample(beside, len(beside))
         live, room = laid(own, rnd, some(3)), rnd.choice([30, 30, 3])
         record('practice beside live: the live picture', live, b'LPTS', 1, room)
-        record('practice beside live: strangers put in', laid(beside, rnd, some(3)), b'LPTS', 1, room, live)
+        record('practice beside live: strangers put in', laid(beside, rnd, b'\xff' + rnd.choice(own)), b'LPTS', 1, room, live)
         record('practice beside live: in another order', laid(moved, rnd, some(3)), b'LPTS', 1, room, live)
 
 

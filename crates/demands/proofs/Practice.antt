@@ -17,7 +17,7 @@ use Rattle.box_rules.proofs.Strangers.{self, same-for}
 use Rattle.box_laws.proofs.Reordering.{same-answer}
 use Rattle.box_laws.proofs.Written.{laid-out}
 use Rattle.demands.specs.Cases.{resultOf, lpts}
-use Rattle.demands.specs.Practice.{EndsWell, own, AnsweredAlike, PracticeApart, live, strangerInFront, strangerBetween, strangerBehind, practiceBetween, backward, elsewhere, lost, lostBeside, PracticeHolds, dots, Answers, StillLive, PracticeShown}
+use Rattle.demands.specs.Practice.{EndsWell, own, AnsweredAlike, PracticeApart, practice, live, strangerInFront, strangerBetween, strangerBehind, practiceBetween, practiceWrapped, backward, elsewhere, lost, lostBeside, PracticeHolds, dots, Answers, StillLive, PracticeShown}
 use Rattle.demands.proofs.Shams.{one-outcome}
 
 -- ---- the law
@@ -90,51 +90,54 @@ practised = packed 0 (holding lpts 2 1 12 (0x39 ∷ 0x2E ∷ 0x39 ∷ 0x39 ∷ [
 abbrev toned : Part
 toned = packed 0 (holding 0x544F4E45 1 1 10 (0x31 ∷ 0x32 ∷ []))
 
-abbrev remark : Part
-remark = other 0 0xFE (0x68 ∷ 0x69 ∷ [])
+abbrev remark : List ℕ → Part
+remark contents = other 0 0xFE contents
+
+abbrev greeting : Part
+greeting = remark (0x68 ∷ 0x69 ∷ [])
 
 abbrev liveParts : List Part
 liveParts = packed 0 one ∷ packed 0 another ∷ []
 
 abbrev elsewhereParts : List Part
-elsewhereParts = remark ∷ practised ∷ packed 2 another ∷ toned ∷ remark ∷ packed 0 one ∷ []
+elsewhereParts = greeting ∷ practised ∷ packed 2 another ∷ toned ∷ remark (practice 1 []) ∷ packed 0 one ∷ []
 
 live-laid : laidOut liveParts 0 [] ≡ live
 unfolding laidOut allBytes bytesOf segment inner two four
 live-laid = refl
 
-elsewhere-laid : laidOut elsewhereParts 1 (0x39 ∷ 0x39 ∷ []) ≡ elsewhere
+elsewhere-laid : laidOut elsewhereParts 1 (practice 1 []) ≡ elsewhere
 unfolding laidOut allBytes bytesOf segment inner two four
 elsewhere-laid = refl
 
 boxed : (kind instance number stated : ℕ) (payload : List ℕ) → 8 ≤ stated → Boxed (holding kind instance number stated payload)
 boxed kind instance number stated payload h = record { least = h; eight = refl }
 
-plain : Plain 0xFE (0x68 ∷ 0x69 ∷ [])
-plain = record { low = omega arith; high = omega arith; carries = inr (omega arith); untagged = λ e r c. omega arith }
+plain : (contents : List ℕ) → Plain 0xFE contents
+plain contents = record { low = omega arith; high = omega arith; carries = inr (omega arith); untagged = λ e r c. omega arith }
 
 live-sound : AllSound liveParts
 live-sound = (boxed _ _ _ _ _ (omega arith), (boxed _ _ _ _ _ (omega arith), tt))
 
 elsewhere-sound : AllSound elsewhereParts
 elsewhere-sound =
-    (plain, (boxed _ _ _ _ _ (omega arith), (boxed _ _ _ _ _ (omega arith), (boxed _ _ _ _ _ (omega arith), (plain, (boxed _ _ _ _ _ (omega arith), tt))))))
+    (plain _, (boxed _ _ _ _ _ (omega arith), (boxed _ _ _ _ _ (omega arith), (boxed _ _ _ _ _ (omega arith), (plain _, (boxed _ _ _ _ _ (omega arith), tt))))))
 
 same-parts : SameFor lpts 1 liveParts elsewhereParts
 same-parts =
     through exchanged
-    (there {x = remark} tt
+    (there {x = greeting} tt
     (there {x = practised} (λ k i. omega arith)
     (shared 0 2
     (there {x = toned} (λ k i. omega arith)
-    (there {x = remark} tt
+    (there {x = remark (practice 1 [])} tt
     (shared 0 0 empty))))))
 
 elsewhere-alike : AnsweredAlike lpts 1 live elsewhere
 elsewhere-alike =
     subst (λ (x : List ℕ). AnsweredAlike lpts 1 live x) elsewhere-laid
-    (subst (λ (x : List ℕ). AnsweredAlike lpts 1 x (laidOut elsewhereParts 1 (0x39 ∷ 0x39 ∷ []))) live-laid
-    (practice-apart .written lpts 1 liveParts elsewhereParts 0 1 [] (0x39 ∷ 0x39 ∷ []) live-sound elsewhere-sound same-parts))
+    (subst (λ (x : List ℕ). AnsweredAlike lpts 1 x (laidOut elsewhereParts 1 (practice 1 []))) live-laid
+    (practice-apart .written lpts 1 liveParts elsewhereParts 0 1 [] (practice 1 []) live-sound elsewhere-sound same-parts))
 
 pub practice-shown : PracticeShown
 unfolding be16 be32 headAt ones barred tagged packetAt wholeAt sizedAt markedAt stepAt stepsIn stepsFrom begins walk ending packetsIn packets isMine mine
@@ -143,6 +146,7 @@ practice-shown = record {
   between = still-live strangerBetween (by-strangers live strangerBetween refl refl refl);
   behind = still-live strangerBehind (by-strangers live strangerBehind refl refl refl);
   practised = still-live practiceBetween (by-strangers live practiceBetween refl refl refl);
+  inside = still-live practiceWrapped (by-strangers live practiceWrapped refl refl refl);
   turned = still-live backward (practice-apart .order lpts 1 live backward refl refl swap);
   moved = still-live elsewhere elsewhere-alike;
   gone = still lost lostBeside 7 1 _ (met .1) (by-strangers lost lostBeside refl refl refl);

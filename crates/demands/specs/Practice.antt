@@ -80,6 +80,10 @@ tone lbox rest = packet 0x14 1 1 lbox (0x54 ∷ 0x4F ∷ 0x4E ∷ 0x45 ∷ 0x31 
 abbrev pub comment : List ℕ → List ℕ
 comment rest = 0xFF ∷ 0xFE ∷ 0x00 ∷ 0x04 ∷ 0x68 ∷ 0x69 ∷ rest
 
+-- S10: a comment that holds a packet of practice, as the live box's number 1, from its FF to its last byte
+abbrev pub wrapped : List ℕ → List ℕ
+wrapped rest = 0xFF ∷ 0xFE ∷ 0x00 ∷ 0x1A ∷ practice 1 rest
+
 -- S10: FF D8 in front, and DA with what stands behind it
 abbrev pub start : List ℕ → List ℕ
 start rest = 0xFF ∷ 0xD8 ∷ rest
@@ -107,13 +111,17 @@ strangerBehind = start (first (second (tone 10 (sos []))))
 abbrev pub practiceBetween : List ℕ
 practiceBetween = start (first (practice 2 (second (sos []))))
 
+-- S10: with practice inside a comment
+abbrev pub practiceWrapped : List ℕ
+practiceWrapped = start (first (wrapped (second (sos []))))
+
 -- S10: the two packets the other way round
 abbrev pub backward : List ℕ
 backward = start (second (first (sos [])))
 
--- S10: all of that, with comments, fill, and bytes behind SOS
+-- S10: all of that, with fill, and practice behind SOS too
 abbrev pub elsewhere : List ℕ
-elsewhere = start (comment (practice 2 (0xFF ∷ 0xFF ∷ second (tone 10 (comment (first (0xFF ∷ sos (0x39 ∷ 0x39 ∷ []))))))))
+elsewhere = start (comment (practice 2 (0xFF ∷ 0xFF ∷ second (tone 10 (wrapped (first (0xFF ∷ sos (practice 1 []))))))))
 
 -- ---- a picture that lost a packet, and the same with a practice packet of the number that is gone
 
@@ -136,7 +144,7 @@ brokenStranger = start (first (second (tone 7 (sos []))))
 -- S10: all of them, as a program runs them
 abbrev pub pictures : List (List ℕ)
 pictures =
-    live ∷ strangerInFront ∷ strangerBetween ∷ strangerBehind ∷ practiceBetween ∷ backward ∷ elsewhere ∷ lost ∷ lostBeside ∷ accident ∷ brokenStranger ∷ []
+    live ∷ strangerInFront ∷ strangerBetween ∷ strangerBehind ∷ practiceBetween ∷ practiceWrapped ∷ backward ∷ elsewhere ∷ lost ∷ lostBeside ∷ accident ∷ brokenStranger ∷ []
 
 -- ---- the list, by computation
 
@@ -156,6 +164,7 @@ practiceCases =
     ∷ (box strangerBetween lpts 1 6 gives time)
     ∷ (box strangerBehind lpts 1 6 gives time)
     ∷ (box practiceBetween lpts 1 6 gives time)
+    ∷ (box practiceWrapped lpts 1 6 gives time)
     ∷ (box backward lpts 1 6 gives time)
     ∷ (box elsewhere lpts 1 6 gives time)
     ∷ (box practiceBetween lpts 2 6 gives naturals (given (0x39 ∷ 0x2E ∷ 0x39 ∷ 0x39 ∷ [])))
@@ -193,7 +202,8 @@ pub record PracticeShown : Type 0 where
   pub between : StillLive strangerBetween
   pub behind : StillLive strangerBehind
   pub practised : StillLive practiceBetween
+  pub inside : StillLive practiceWrapped
   pub turned : StillLive backward
   pub moved : StillLive elsewhere
   pub gone : Answers lostBeside 7 1 (replicate 6 0)
-  pub listed : length practiceCases ≡ 14
+  pub listed : length practiceCases ≡ 15
