@@ -150,5 +150,6 @@ practice-shown = record {
   turned = still-live backward (practice-apart .order lpts 1 live backward refl refl swap);
   moved = still-live elsewhere elsewhere-alike;
   gone = still lost lostBeside 7 1 _ (met .1) (by-strangers lost lostBeside refl refl refl);
+  stopped = refl;
   listed = refl;
 }

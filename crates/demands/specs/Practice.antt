@@ -196,7 +196,7 @@ Answers file number place left =
 abbrev pub StillLive : List ℕ → Type 0
 StillLive file = Answers file 0 4 (0x39 ∷ 0x2E ∷ 0x35 ∷ 0x38 ∷ 0x2E ∷ 0x2E ∷ [])
 
--- S10: so it is in each of them
+-- S10: so it is in each of them; and that both walks end well is not asked for nothing: the live picture's packets stand in `brokenStranger` too
 pub record PracticeShown : Type 0 where
   pub inFront : StillLive strangerInFront
   pub between : StillLive strangerBetween
@@ -206,4 +206,5 @@ pub record PracticeShown : Type 0 where
   pub turned : StillLive backward
   pub moved : StillLive elsewhere
   pub gone : Answers lostBeside 7 1 (replicate 6 0)
+  pub stopped : own lpts 1 live ≡ own lpts 1 brokenStranger
   pub listed : length practiceCases ≡ 15
