@@ -151,5 +151,6 @@ practice-shown = record {
   moved = still-live elsewhere elsewhere-alike;
   gone = still lost lostBeside 7 1 _ (met .1) (by-strangers lost lostBeside refl refl refl);
   stopped = refl;
+  each = refl;
   listed = refl;
 }

@@ -1,8 +1,8 @@
 -- D6, D7 and S10, practice must not reach live (A8): what a call answers for a type and instance is settled by the packets of that type and instance alone.
 use mathlib.Core.Path.{_≡_}
-use mathlib.Core.List.{List, [], _∷_}
+use mathlib.Core.List.{List, [], _∷_, map}
 use Prim.Native.Nat.{ℕ}
-use lib.ListN.{length, replicate}
+use lib.ListN.{length, take, replicate}
 use Rattle.answers.specs.Verdict.{given, refused, refusal, Meets}
 use Rattle.answers.specs.declared.Answer.{Answer}
 use Rattle.answers.specs.declared.Outcome.the-variants.{Given}
@@ -156,7 +156,7 @@ time = naturals (given (0x39 ∷ 0x2E ∷ 0x35 ∷ 0x38 ∷ []))
 abbrev pub no : ℕ → ℕ → Result
 no number place = naturals (refused (refusal number place))
 
--- S10: each picture asked for LPTS, instance 1, into six bytes; the practice box itself; three bytes, one too few; a lost packet; and what is not the same
+-- S10: each picture in turn asked for LPTS, instance 1, into six bytes; then the practice box itself, and three bytes, one too few
 abbrev pub practiceCases : List Case
 practiceCases =
     (box live lpts 1 6 gives time)
@@ -167,13 +167,13 @@ practiceCases =
     ∷ (box practiceWrapped lpts 1 6 gives time)
     ∷ (box backward lpts 1 6 gives time)
     ∷ (box elsewhere lpts 1 6 gives time)
-    ∷ (box practiceBetween lpts 2 6 gives naturals (given (0x39 ∷ 0x2E ∷ 0x39 ∷ 0x39 ∷ [])))
-    ∷ (box live lpts 1 3 gives no 9 4)
-    ∷ (box elsewhere lpts 1 3 gives no 9 4)
     ∷ (box lost lpts 1 6 gives no 7 1)
     ∷ (box lostBeside lpts 1 6 gives no 7 1)
     ∷ (box accident lpts 1 6 gives no 6 1)
     ∷ (box brokenStranger lpts 1 6 gives no 3 46)
+    ∷ (box practiceBetween lpts 2 6 gives naturals (given (0x39 ∷ 0x2E ∷ 0x39 ∷ 0x39 ∷ [])))
+    ∷ (box live lpts 1 3 gives no 9 4)
+    ∷ (box elsewhere lpts 1 3 gives no 9 4)
     ∷ []
 
 -- S10: so it is
@@ -207,4 +207,5 @@ pub record PracticeShown : Type 0 where
   pub moved : StillLive elsewhere
   pub gone : Answers lostBeside 7 1 (replicate 6 0)
   pub stopped : own lpts 1 live ≡ own lpts 1 brokenStranger
+  pub each : map (λ (c : Case). c .asked) (take 12 practiceCases) ≡ map (λ (file : List ℕ). box file lpts 1 6) pictures
   pub listed : length practiceCases ≡ 15
