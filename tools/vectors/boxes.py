@@ -1,6 +1,7 @@
 #!/usr/bin/env python3
 """boxes.py STDIN STDOUT: makes the vectors of boxes that crates/box_vectors runs and what it must print: files in order, shuffled, with several
-instances, strangers, fill, broken heads, damage and cuts, by the second reading of the rules in tools/box_check.py, and the bundled picture of the reference software.
+instances, strangers, fill, broken heads, damage and cuts, by the second reading of the rules in tools/box_check.py, the bundled picture of the reference software, and pictures
+with practice beside live, held to the answer of the live one.
 A record is type, instance, room, the file, and the number, place and bytes expected."""
 import os, random, struct, sys
 from fields import lent, numbers, write

@@ -27,11 +27,11 @@ module _ (kind instance : ℕ) where
       (either (eqb (h .kind) kind))
 
   -- the packets of this type and instance among the segments of a file
-  own : List Part → List Packet
+  abbrev own : List Part → List Packet
   own parts = mine kind instance (packetsOf parts)
 
   past : (x : Part) (a : List Part) → Stranger kind instance x → own (x ∷ a) ≡ own a
-  unfolding own mine packetsOf
+  unfolding mine packetsOf
   past (packed fill p) a s = rw (not-mine (p .head) s)
   past (other fill marker contents) a s = refl
 
@@ -42,7 +42,7 @@ module _ (kind instance : ℕ) where
   swap-own false false p q a = self a
 
   either-way : (x y : Part) (a : List Part) → Reordered (own (x ∷ (y ∷ a))) (own (y ∷ (x ∷ a)))
-  unfolding own mine packetsOf
+  unfolding mine packetsOf
   either-way (packed fill p) (packed fill′ q) a = swap-own (isMine kind instance (p .head)) (isMine kind instance (q .head)) p q (own a)
   either-way (packed fill p) (other fill′ marker contents) a = self (own (packed fill p ∷ a))
   either-way (other fill marker contents) y a = self (own (y ∷ a))
@@ -53,7 +53,7 @@ module _ (kind instance : ℕ) where
 
   -- where two files are the same for a type and instance, its packets in the one are an ordering of those in the other
   pub same-for : {a b : List Part} → SameFor kind instance a b → Reordered (mine kind instance (packetsOf a)) (mine kind instance (packetsOf b))
-  unfolding own mine packetsOf
+  unfolding mine packetsOf
   same-for empty = none
   same-for (shared {p} fill fill′ h) = keep-own (isMine kind instance (p .head)) p (same-for h)
   same-for (here {x} {a} s h) = rw (past x a s) (same-for h)

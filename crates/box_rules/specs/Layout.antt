@@ -1,4 +1,4 @@
--- W10: a file as a writer sees it, the bytes of a number, a segment, a packet and a file. Nothing here knows of the walk.
+-- W10 and P24: a file as a writer sees it, the bytes of a number, a segment, a packet and a file; and when two files are the same for a type and instance. Nothing here knows of the walk.
 use Prim.Native.Nat.{ℕ, suc, _+_, _/_, _%_, _≤_, _<_}
 use mathlib.Core.Path.{_≡_}
 use mathlib.Core.Logic.{_⊎_}

@@ -196,7 +196,7 @@ Answers file number place left =
 abbrev pub StillLive : List ℕ → Type 0
 StillLive file = Answers file 0 4 (0x39 ∷ 0x2E ∷ 0x35 ∷ 0x38 ∷ 0x2E ∷ 0x2E ∷ [])
 
--- S10: so it is in each of them; and that both walks end well is not asked for nothing: the live picture's packets stand in `brokenStranger` too
+-- S10: so it is in each of them. `stopped` is why both walks must end well: `brokenStranger` has the live picture's packets too, and is refused
 pub record PracticeShown : Type 0 where
   pub inFront : StillLive strangerInFront
   pub between : StillLive strangerBetween
