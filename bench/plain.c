@@ -462,7 +462,7 @@ uint32_t PLAIN(merge)(uint32_t rb, uint32_t rh, uint32_t rr, uint32_t components
     for (size_t p = 0; p < pixels; p++) {
         int64_t v[3], w[3];
         for (uint32_t c = 0; c < components; c++) v[c] = base[c * pixels + p];
-        if (transform) coloured(v, 128);
+        if (transform) coloured(v, (int64_t)1 << (7 + rh));
         for (uint32_t c = 0; c < components; c++) v[c] = near(clip(v[c], low) * high, low);
         if (residual_on) {
             for (uint32_t c = 0; c < components; c++) {

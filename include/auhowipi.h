@@ -112,7 +112,8 @@ uint32_t xt_inverse_transform(uint32_t refinement, size_t blocks, const int32_t 
 
 /* ---- the merge to 9 to 16 bits. Component planes follow one another. What is not used is empty.
  * C5: base_transform, residual_transform: 0 identity, 1 the transform. curve: 0 straight, 1 the lent table, 2 inverse sRGB.
- * matrix_on, residual_on: 0 absent, 1 present. */
+ * matrix_on, residual_on: 0 absent, 1 present.
+ * M10, M16: the base's transform takes 2^(7+rh) from Cb and Cr, the residual's takes 2^(7+rb). */
 uint32_t xt_merge(uint32_t rb, uint32_t rh, uint32_t rr, uint32_t components, size_t pixels, uint32_t base_transform,
                   uint32_t curve, uint32_t matrix_on, uint32_t residual_on, uint32_t residual_transform, const int32_t *base,
                   size_t base_len, const int32_t *residual, size_t residual_len, const uint16_t *table, size_t table_len,

@@ -97,7 +97,7 @@ class Case:
         b = [self.base[i] for i in at]
         # 1
         if self.base_transform:
-            b = ycbcr(*b, 128)
+            b = ycbcr(*b, 2**(7 + self.rh))
         b = [clip(nearest(v), 8 + self.rh) for v in b]
         # 2
         if self.curve == 0:
@@ -183,6 +183,18 @@ def cases():
         for rr in range(5):
             yield Case(rb=rb, rr=rr, components=3, pixels=2, residual_on=1, residual_transform=1, base=[7, 77, 177, 250, 128, 3],
                        residual=[sample(8 + rr, False), MIN, 2**(7 + rr) + 3, MAX, 2**(7 + rr) - 5, MIN])
+    # grey at Rh 4 (S11), through the straight curve at Rb 4, which leaves it
+    yield Case(rb=4, rh=4, components=3, base_transform=1, base=[2048, 2048, 2048])
+    # every Rh, both transforms on and off: grey, Cb and Cr one away from the centre and at both ends, f as many bits deeper; Rb is never Rh
+    for rh in range(5):
+        c, top, rb, rr = 2**(7 + rh), 2**(8 + rh) - 1, (6, 3, 7, 8, 5)[rh], (2, 4, 0, 3, 1)[rh]
+        colours = [(c, c, c), (0, c, c), (top, c, c), (c, c + 1, c), (c, c, c - 1), (c, 0, top), (c, top, 0), (100 << rh, c, 138 << rh), (90 << rh, 80 << rh, 100 << rh)]
+        d = 2**(7 + rr)
+        tints = [(d, d, d), (d + 9, d, d), (d, d + 1, d), (d, d, d - 1), (d, d - 7, d + 5), (d, d + 40, d), (d - 3, d, d - 20), (0, d, d), (2 * d - 1, 2, 3)]
+        for base_transform, residual_transform in ((0, 0), (0, 1), (1, 0), (1, 1)):
+            yield Case(rb=rb, rh=rh, rr=rr, components=3, pixels=len(colours), base_transform=base_transform, residual_on=1, residual_transform=residual_transform,
+                       base=[p[k] for k in range(3) for p in colours], residual=[p[k] for k in range(3) for p in tints])
+        yield Case(rb=rb, rh=rh, components=3, pixels=len(colours), base_transform=1, base=[p[k] for k in range(3) for p in colours])
     # far values through step 1
     for rh in range(5):
         yield Case(rb=8, rh=rh, components=3, pixels=5, base_transform=1, base=[MIN, MAX, 0, 300, -300, MAX, MIN, 0, 128, 500, MIN, MAX, 0, 28, 128])

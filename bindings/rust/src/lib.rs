@@ -167,9 +167,11 @@ pub struct Setting<'a> {
     pub rh: u32,
     pub rr: u32,
     pub components: u32,
+    /// Y, Cb, Cr to red, green, blue, with Cb and Cr taken less 2^(7+rh).
     pub base_transform: bool,
     pub curve: Curve<'a>,
     pub matrix: Option<&'a [i16; 9]>,
+    /// The same for the residual, less 2^(7+rb).
     pub residual_transform: bool,
 }
 

@@ -1,4 +1,4 @@
-//! The whiteboard's readings (docs/RULES.md, S1 to S5, S7 and S8) and practice beside live (S10) through the Rust calls, and a round trip.
+//! The whiteboard's readings (docs/RULES.md, S1 to S5, S7 and S8), practice beside live (S10) and grey (S11) through the Rust calls, and a round trip.
 use auhowipi::*;
 
 const LPTS: [u8; 4] = *b"LPTS";
@@ -132,6 +132,23 @@ fn merged() {
     assert_eq!(refused(merge(Setting { base_transform: true, ..plain(4) }, 1, &[1], None, &mut out)), (20, 0));
 }
 
+/// S11 and its like: at Rb = Rh the straight curve leaves what step 1 gives. Behind them case f, four planes deeper.
+#[test]
+fn grey_at_every_refinement() {
+    let mut out = [7u16; 4];
+    for rh in 1..=4 {
+        let coloured = Setting { rh, components: 3, base_transform: true, ..plain(rh) };
+        let centre = 128 << rh;
+        for y in [0, 1, 100 << rh, centre, 2 * centre - 1] {
+            assert_eq!(merge(coloured, 1, &[y, centre, centre], None, &mut out), Ok(3));
+            assert_eq!(out.map(i32::from), [y, y, y, 7]);
+        }
+    }
+    let deep = Setting { rh: 4, components: 3, base_transform: true, ..plain(4) };
+    assert_eq!(merge(deep, 1, &[1600, 2048, 2208], None, &mut out), Ok(3));
+    assert_eq!(out, [1824, 1486, 1600, 7]);
+}
+
 /// 32 codes of six bits: every code that a plane can need.
 fn every_code() -> ([u8; 16], Vec<u8>) {
     let mut counts = [0u8; 16];
@@ -165,8 +182,8 @@ fn three_components() {
     let residual = [500, 530, 490, 520, 560, 470];
     let setting = Setting { rb: 3, rh: 1, rr: 2, components: 3, base_transform: true, curve: Curve::Table(&table), matrix: Some(&matrix), residual_transform: false };
     let mut out = [7u16; 7];
-    assert_eq!(merge(setting, 2, &base, Some(&residual), &mut out), Ok(6));
-    assert_eq!(out, [847, 1900, 971, 1353, 1293, 1528, 7]);
+    assert_eq!(merge(setting, 2, &[200, 310, 280, 240, 230, 290], Some(&residual), &mut out), Ok(6));
+    assert_eq!(out, [851, 1920, 957, 1349, 1415, 1451, 7]);
     let turned = Setting { base_transform: false, residual_transform: true, ..setting };
     assert_eq!(merge(turned, 2, &base, Some(&residual), &mut out), Ok(6));
     assert_eq!(out, [1167, 1493, 539, 634, 442, 947, 7]);

@@ -45,9 +45,10 @@ pub fn by_table(s: Setting) -> Setting
 
 // What step 1 takes from Cb and Cr.
 fn first_centre(rh: u32) -> i64
+    requires { ⌜ rh ≤ 8 ⌝ }
     ensures { λ c. ⌜ (c ≡ firstCentre rh) × (natAbs c ≤ 32768) ⌝ }
 {
-    128
+    rounding::centre_of(rh)
 }
 
 // Y and a weight of each colour difference, in millionths, rounded.

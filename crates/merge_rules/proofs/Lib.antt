@@ -1,6 +1,7 @@
 pub mod PictureCases
 pub mod RoundingCases
 pub mod CurveCases
+pub mod Centre
 pub mod PixelCases
 pub mod SettingCases
 pub mod CallCases

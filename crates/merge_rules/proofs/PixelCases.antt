@@ -1,7 +1,7 @@
 -- Cases f, g and h of the whiteboard, and each step at chosen numbers, worked out by hand from the rules and computed on the definitions. Assumes nothing.
 use mathlib.Core.Path.{_≡_, refl}
 use mathlib.Core.List.{[], _∷_, map}
-use Prim.Native.Nat.{ℕ}
+use Prim.Native.Nat.{ℕ, _*_, _^_}
 use lib.IntN.{ℤ, pos, negsuc}
 use lib.ListN.{getD}
 use Rattle.merge_rules.specs.Near.{nearest, clip, row}
@@ -83,11 +83,23 @@ pub tints-apart : map (λ (p : ℤ × ℤ × ℤ). tints (p .0) (p .1) (p .2)) (
 unfolding tints tinted nearest row
 tints-apart = refl
 
--- "after taking 128 from Cb and Cr", at every Rh; "clip to 0 .. 2^(8+Rh)-1": at Rh 4 nothing of 1000 and 4095 is cut, 4096 is
-pub grey-at-four : map (stepOne (straightWith 1 4 0 Transform None Absent Identity)) (triple (pos 1000) (pos 128) (pos 128) ∷ triple (pos 4095) (pos 128) (pos 128) ∷ triple (pos 4096) (pos 128) (pos 128) ∷ [])
-    ≡ triple 1000 1000 1000 ∷ triple 4095 4095 4095 ∷ triple 4095 4095 4095 ∷ []
+-- A2: "The centre is 2^(7+Rh)."
+pub centres : map firstCentre (0 ∷ 1 ∷ 2 ∷ 3 ∷ 4 ∷ []) ≡ pos 128 ∷ pos 256 ∷ pos 512 ∷ pos 1024 ∷ pos 2048 ∷ []
+unfolding firstCentre
+centres = refl
+
+-- A2: "Y 2048, Cb 2048, Cr 2048 gives 2048 three times after step 1", at Rh 4; "clip to 0 .. 2^(8+Rh)-1": nothing of 1000 and 4095 is cut, 4096 is
+pub grey-at-four : map (λ y. stepOne (straightWith 1 4 0 Transform None Absent Identity) (triple (pos y) (pos 2048) (pos 2048))) (2048 ∷ 1000 ∷ 4095 ∷ 4096 ∷ [])
+    ≡ triple 2048 2048 2048 ∷ triple 1000 1000 1000 ∷ triple 4095 4095 4095 ∷ triple 4095 4095 4095 ∷ []
 unfolding straightWith stepOne recolour transform tints tinted firstCentre each nearest row clip
 grey-at-four = refl
+
+-- f with each number 2^Rh times as large, at Rh 1 to 4 and another Rb: Cr is 20, 40, 80, 160 above the centre, and 1.402, -0.714136 of it are 28.04, -14.28 and so on
+pub f-refined : map (λ (p : ℕ × ℕ). stepOne (straightWith (p .0) (p .1) 0 Transform None Absent Identity) (triple (pos (100 * 2 ^ p .1)) (pos (128 * 2 ^ p .1)) (pos (138 * 2 ^ p .1))))
+    ((8, 1) ∷ (1, 2) ∷ (4, 3) ∷ (2, 4) ∷ [])
+    ≡ triple 228 186 200 ∷ triple 456 371 400 ∷ triple 912 743 800 ∷ triple 1824 1486 1600 ∷ []
+unfolding straightWith stepOne recolour transform tints tinted firstCentre each nearest row clip
+f-refined = refl
 
 -- the clip holds for the identity too, and at Rh and not Rb: -1, 511, 512 at Rh 1, Rb 8
 pub identity-clipped : stepOne (straightWith 8 1 0 Identity None Absent Transform) (triple (negsuc 0) (pos 511) (pos 512)) ≡ triple 0 511 511

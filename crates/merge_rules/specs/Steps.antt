@@ -28,7 +28,7 @@ tints y cb cr =
     (tinted (negℤ (pos 344136)) (negℤ (pos 714136)) y cb cr)
     (tinted (pos 1772000) (pos 0) y cb cr)
 
--- M9: "after taking 128 from Cb and Cr", 128 being the centre
+-- M9: Cb and Cr are taken less a centre: M10 has that of step 1, M16 that of step 4
 unfoldable pub transform : ℤ → Pixel ℤ → Pixel ℤ
 transform centre (single y) = single y
 transform centre (triple y cb cr) = tints y (cb -ℤ centre) (cr -ℤ centre)
@@ -38,9 +38,9 @@ unfoldable pub recolour : Colour → ℤ → Pixel ℤ → Pixel ℤ
 recolour Identity centre p = p
 recolour Transform centre p = transform centre p
 
--- M10: "after taking 128 from Cb and Cr"
+-- M10: "The centre is 2^(7+Rh)."
 unfoldable pub firstCentre : ℕ → ℤ
-firstCentre rh = pos 128
+firstCentre rh = pos (2 ^ (7 + rh))
 
 -- M11: "clip to 0 .. 2^(8+Rh)-1"
 unfoldable pub stepOne : Setting → Pixel ℤ → Pixel ℕ
