@@ -10,6 +10,7 @@ pub mod Held
 pub mod Three
 pub mod Cases
 pub mod Srgb
+pub mod Grey
 pub mod Shams
 pub mod Practice
 pub mod Written

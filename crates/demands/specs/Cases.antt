@@ -1,4 +1,4 @@
--- S1 to S9: the whiteboard's readings marked P (cases a, c, d, e, f, g), as one list.
+-- S1 to S9, S11: the whiteboard's readings marked P (cases a, c, d, e, f, g) and the grey picture of A2, as one list.
 use mathlib.Core.Path.{_≡_}
 use mathlib.Core.List.{List, [], _∷_, map}
 use Prim.Native.Nat.{ℕ}
@@ -87,12 +87,12 @@ onlyDc s = transformed 0 1 (s ∷ replicate 63 (pos 0)) (replicate 64 1) 64
 abbrev pub everywhere : ℤ → Result
 everywhere value = integers (given (replicate 64 value))
 
--- S6: "Rh 0", "Rb 4, straight"; at Rr 4 a residual is after step 4 what it was before
-abbrev pub setting : ℕ → Colour → Residual → Setting
-setting components colour residual =
+-- S6, S11: straight, by its Rb and Rh, without a matrix
+abbrev pub settingAt : ℕ → ℕ → ℕ → Colour → Residual → Setting
+settingAt rb rh components colour residual =
     record {
-      rb = 4;
-      rh = 0;
+      rb = rb;
+      rh = rh;
       rr = 4;
       components = components;
       «base_transform» = colour;
@@ -102,6 +102,10 @@ setting components colour residual =
       residual = residual;
       «residual_transform» = Identity;
     }
+
+-- S6: "Rh 0", "Rb 4, straight"; at Rr 4 a residual is after step 4 what it was before
+abbrev pub setting : ℕ → Colour → Residual → Setting
+setting = settingAt 4 0
 
 -- S7: one pixel of one component, without a residual
 abbrev pub baseAlone : ℤ → Asked
@@ -117,7 +121,7 @@ oneSample n = naturals (given (n ∷ []))
 
 -- ---- the whiteboard
 
--- S1, S3, S4, S5, S6, S7: the 16 readings marked P
+-- S1, S3, S4, S5, S6, S7, S11: the 16 readings marked P, and A2's
 abbrev pub whiteboard : List Case
 whiteboard =
     -- a. "LPTS, 1 gives AA BB CC", "LPTS, 2 gives 4"
@@ -143,6 +147,8 @@ whiteboard =
     ∷ (with (pos 128) (pos 2050) gives oneSample 2058)
     ∷ (with (pos 255) (pos 2100) gives oneSample 4095)
     ∷ (with (pos 0) (pos 2000) gives oneSample 0)
+    -- A2. "a grey picture at Rh 4: Y 2048, Cb 2048, Cr 2048 gives 2048 three times after step 1"; Rb is another number, 8
+    ∷ (firstStep (settingAt 8 4 3 Transform Absent) (triple (pos 2048) (pos 2048) (pos 2048)) gives pixel (triple 2048 2048 2048))
     ∷ []
 
 -- S9: every reading is what the whiteboard says

@@ -4,6 +4,7 @@ pub mod Two
 pub mod Three
 pub mod Cases
 pub mod Srgb
+pub mod Grey
 pub mod Shams
 pub mod Practice
 pub mod Written

@@ -101,9 +101,9 @@ DoubledUnread =
 
 -- ---- "Cases marked P are proved as one statement over one list": none is missing
 
--- S9: the list has all 16
+-- S9, S11: the list has all 16, and A2's
 abbrev pub WhiteboardWhole : Type 0
-WhiteboardWhole = length whiteboard ≡ 16
+WhiteboardWhole = length whiteboard ≡ 17
 
 -- D5: all of these
 pub record ShamsRefuted : Type 1 where
