@@ -1,13 +1,14 @@
-"""The calls of libreader_c.a from Python, through a shared library made of it. Build it first with `rt staticlib reader_c`."""
+"""The calls of libreader_c.a from Python, through a shared library made of it: the one in the folder that AUHOWIPI_LIBRARY names (tools/library makes one for any machine), else
+target/staticlib's, which `rt staticlib reader_c` makes for x86-64."""
 import ctypes, os, subprocess, tempfile
 
 ROOT = os.path.dirname(os.path.dirname(os.path.dirname(os.path.abspath(__file__))))
-ARCHIVE = os.path.join(ROOT, 'target', 'staticlib', 'libreader_c.a')
+ARCHIVE = os.path.join(os.environ.get('AUHOWIPI_LIBRARY', os.path.join(ROOT, 'target', 'staticlib')), 'libreader_c.a')
 
 
 def load():
     if not os.path.exists(ARCHIVE):
-        raise SystemExit('run `rt staticlib reader_c` first')
+        raise SystemExit(f'there is no {ARCHIVE}: run `rt staticlib reader_c` first')
     shared = os.path.join(tempfile.mkdtemp(), 'libreader_c.so')
     subprocess.run(['gcc', '-shared', '-o', shared, '-Wl,--whole-archive', ARCHIVE, '-Wl,--no-whole-archive'], check=True)
     return ctypes.CDLL(shared)
@@ -64,6 +65,8 @@ def transform(refinement, blocks, values, quantisers):
     return call('xt_inverse_transform', u32(refinement), size(blocks), (I32, values), (U16, quantisers), (I32, [0] * (64 * blocks)))
 
 
-def merge_grey(rb, rh, rr, base, table, residual):
-    curve, added = (1 if table else 0), (1 if residual else 0)
-    return call('xt_merge', u32(rb), u32(rh), u32(rr), u32(1), size(len(base)), u32(0), u32(curve), u32(0), u32(added), u32(0), (I32, base), (I32, residual), (U16, table), (I16, []), (U16, [0] * len(base)))
+def merge(rb, rh, rr, components, base, table, residual):
+    """The merge without a matrix; three components have their transforms."""
+    coloured, curve, added = int(components == 3), (1 if table else 0), (1 if residual else 0)
+    return call('xt_merge', u32(rb), u32(rh), u32(rr), u32(components), size(len(base) // components), u32(coloured), u32(curve), u32(0), u32(added), u32(coloured),
+                (I32, base), (I32, residual), (U16, table), (I16, []), (U16, [0] * len(base)))

@@ -1,7 +1,7 @@
 #!/usr/bin/env python3
-"""read.py PICTURE [OUT.pgm]: one grey JPEG XT picture read through: boxes, refinement planes, transform, merge with its TONE table; compared with
+"""read.py PICTURE [OUT]: one JPEG XT picture read through, grey, or in colour without subsampling and without a residual: boxes, refinement planes, transform, merge with its TONE table (OUT is a PGM or PPM file); compared with
 the reference decoder (`jpeg` of Debian's libjpeg-tools) where that is there, and with that decoder's arithmetic, rebuilt here by trial, on the same values. The base coefficients are lent numbers to the reader: they stand in
-PICTURE.base, or come from libjpeg (tools/vectors/coefficients.c: gcc and libjpeg62-turbo-dev). Needs `rt staticlib reader_c` first."""
+PICTURE.base, or come from libjpeg (tools/vectors/coefficients.c: gcc and libjpeg62-turbo-dev). Needs the library first (library.py)."""
 import os, shutil, subprocess, sys, tempfile
 sys.path.insert(0, os.path.dirname(os.path.abspath(__file__)))
 from library import *
@@ -21,30 +21,36 @@ def segments(jpeg):
 
 
 def base_of(path, jpeg):
-    """Width, height, quantisers and level 0 values of a codestream; `path` names its file."""
+    """Width, height, and for each component its number, its quantisers and its level 0 blocks, of a codestream; `path` names its file."""
+    tables = {}
     for marker, body, _ in segments(jpeg):
-        if marker == 0xDB:
-            quantisers = list(body[1:65])
+        while marker == 0xDB and body:
+            tables[body[0]], body = list(body[1:65]), body[65:]
         if marker in (0xC0, 0xC1, 0xC2):
             height, width = int.from_bytes(body[1:3], 'big'), int.from_bytes(body[3:5], 'big')
+            frame = [body[i:i + 3] for i in range(6, len(body), 3)]
+    if len({sampling for _, sampling, _ in frame}) > 1:
+        raise SystemExit('colour is subsampled')
     if os.path.exists(path + '.base'):
         text = open(path + '.base').read()
     else:
         tool = os.path.join(TMP, 'coefficients')
         subprocess.run(['gcc', '-O1', '-o', tool, os.path.join(ROOT, 'tools', 'vectors', 'coefficients.c'), '-ljpeg'], check=True)
         text = subprocess.run([tool, path], capture_output=True, check=True).stdout.decode()
-    return width, height, quantisers, [list(map(int, line.split())) for line in text.split('\n')[1:] if line]
+    blocks = [list(map(int, line.split())) for line in text.split('\n')[1:] if line]
+    n = len(blocks) // len(frame)
+    return width, height, [(number, tables[table], blocks[n * k:n * k + n]) for k, (number, _, table) in enumerate(frame)]
 
 
 def scan_of(fine):
-    """A FINE box is a refinement scan: an optional code table, the scan's head, its data."""
+    """A FINE box is a refinement scan: an optional code table, the scan's head, its data. (components, whether DC, low bit, table, data)"""
     table = (b'', b'')
     for marker, body, end in segments(b'\xff\xd8' + fine + b'\xff\xd9'):
         if marker == 0xC4:
             n = sum(body[1:17])
             table = (body[1:17], body[17:17 + n])
         if marker == 0xDA:
-            return body[-3] == 0, body[-1] & 15, table, fine[end - 2:]
+            return body[1:-3:2], body[-3] == 0, body[-1] & 15, table, fine[end - 2:]
 
 
 def refuse(what, answer):
@@ -93,8 +99,14 @@ def decoder_samples(blocks, quantisers, planes):
     return out
 
 
+def decoder_colours(rh, planes):
+    """The reference decoder's base transform, rebuilt by trial, of samples in sixteenths: weights in 8192ths, the centre 2^(7+Rh), one rounding to wholes."""
+    centre, weights = 1 << 11 + rh, ((0, 11485), (-2819, -5850), (14516, 0))
+    return [[(8192 * y + l * (cb - centre) + m * (cr - centre) + (1 << 16) >> 17) << 4 for y, cb, cr in zip(*planes)] for l, m in weights]
+
+
 def decoder_merge(rb, rh, rr, base, table, residual):
-    """The reference decoder's merge, rebuilt by trial, of samples in sixteenths: the base is rounded before its curve, the residual is clipped to its range and keeps its sixteenths."""
+    """The reference decoder's merge, rebuilt by trial, of one component's samples in sixteenths: the base is rounded before its curve, the residual is clipped to its range and keeps its sixteenths."""
     clip = lambda v, bits: max(0, min(v, (1 << bits) - 1))
     out = []
     for i, b in enumerate(base):
@@ -108,50 +120,65 @@ def decoder_merge(rb, rh, rr, base, table, residual):
 
 
 def samples_of(name, path, codestream, fines, say):
-    """Width, height, how many planes there are, and the samples row by row of a codestream and its refinement boxes: ours, and the decoder's in sixteenths."""
-    width, height, quantisers, blocks = base_of(path, codestream)
-    planes, n = len(fines) // 2, len(blocks)
-    dc, ac = [b[0] for b in blocks], [v for b in blocks for v in b[1:]]
-    for fine in fines:
-        is_dc, low, table, data = scan_of(fine)
+    """Width, height, how many planes there are, and the samples row by row of a codestream's components and their refinement boxes: ours, and the decoder's in sixteenths."""
+    width, height, components = base_of(path, codestream)
+    scans = [scan_of(fine) for fine in fines]
+    planes, n = sum(is_dc for _, is_dc, *_ in scans), len(components[0][2])
+    # a DC scan has a bit of each component's block in turn, an AC scan is of one component
+    dc = [block[0] for blocks in zip(*(blocks for _, _, blocks in components)) for block in blocks]
+    ac = {number: [v for block in blocks for v in block[1:]] for number, _, blocks in components}
+    for numbers, is_dc, low, table, data in scans:
         plane = planes - low
-        answer = read_dc(plane, n, data, dc) if is_dc else read_ac(plane, n, *table, data, ac)
+        answer = read_dc(plane, len(dc), data, dc) if is_dc else read_ac(plane, n, *table, data, ac[numbers[0]])
         if answer[0]:
             refuse(f'{name}, plane {plane}', answer)
         if is_dc:
             dc = answer[2]
         else:
-            ac = answer[2]
+            ac[numbers[0]] = answer[2]
         say(f'{name}, plane {plane} {"DC" if is_dc else "AC"}: {len(data)} bytes, {answer[1]} values')
-    blocks = [[dc[b]] + ac[63 * b:63 * b + 63] for b in range(n)]
-    answer = transform(planes, n, [v for b in blocks for v in b], quantisers)
-    if answer[0]:
-        refuse(f'{name}, transform', answer)
-    across = (width + 7) // 8
+    across, ours, theirs = (width + 7) // 8, [], []
     rows = lambda samples: [samples[64 * ((y // 8) * across + x // 8) + 8 * (y % 8) + x % 8] for y in range(height) for x in range(width)]
-    return width, height, planes, rows(answer[2]), rows(decoder_samples(blocks, quantisers, planes))
+    for k, (number, quantisers, _) in enumerate(components):
+        blocks = [[dc[len(components) * b + k]] + ac[number][63 * b:63 * b + 63] for b in range(n)]
+        answer = transform(planes, n, [v for b in blocks for v in b], quantisers)
+        if answer[0]:
+            refuse(f'{name}, transform', answer)
+        ours.append(rows(answer[2]))
+        theirs.append(rows(decoder_samples(blocks, quantisers, planes)))
+    return width, height, planes, ours, theirs
+
+
+def pixel_by_pixel(planes):
+    return [v for pixel in zip(*planes) for v in pixel]
 
 
 def read(path, say=print):
-    """Width, height, Rb, the samples, and what the decoder's arithmetic, as rebuilt here, makes of the same values."""
+    """Width, height, Rb, components, the samples pixel by pixel, and what the decoder's arithmetic, as rebuilt here, makes of the same values."""
     file = open(path, 'rb').read()
     say(listing(file).rstrip())
     width, height, planes, base, base16 = samples_of('base', path, file, all_boxes(file, b'FINE'), say)
     number, _, tone = box(file, b'TONE', 1)
     table = [int.from_bytes(tone[i:i + 2], 'big') for i in range(1, len(tone) - 1, 2)] if number == 0 else []
     number, _, codestream = box(file, b'RESI', 1)
-    residual, residual16, rr = [], [], 0
+    residual, residual16, rr, components = [[]], [[]], 0, len(base)
     if number == 0:
+        if components > 1:
+            raise SystemExit('a residual in colour is not read here')
         inner = os.path.join(TMP, 'residual.jpg')
         with open(inner, 'wb') as f:
             f.write(codestream)
         _, _, rr, residual, residual16 = samples_of('residual', inner, codestream, all_boxes(file, b'RFIN'), say)
     bits = output_bits(file)
-    answer = merge_grey(bits - 8, planes, rr, base, table, residual)
+    answer = merge(bits - 8, planes, rr, components, sum(base, []), table, sum(residual, []))
     if answer[0]:
         refuse('merge', answer)
     say(f'merged: {answer[1]} samples of {bits} bits, from {min(answer[2])} to {max(answer[2])}')
-    return width, height, bits - 8, answer[2], decoder_merge(bits - 8, planes, rr, base16, table, residual16)
+    if components == 3:
+        base16 = decoder_colours(planes, base16)
+    as_decoder = [decoder_merge(bits - 8, planes, rr, b, table, residual16[0]) for b in base16]
+    n = width * height
+    return width, height, bits - 8, components, pixel_by_pixel([answer[2][n * k:n * k + n] for k in range(components)]), pixel_by_pixel(as_decoder)
 
 
 def reference(path):
@@ -170,10 +197,10 @@ def reference(path):
 
 
 def main():
-    width, height, planes, samples, as_decoder = read(sys.argv[1])
+    width, height, planes, components, samples, as_decoder = read(sys.argv[1])
     if len(sys.argv) > 2:
         with open(sys.argv[2], 'wb') as f:
-            f.write(b'P5\n%d %d\n%d\n' % (width, height, (1 << 8 + planes) - 1) + b''.join(s.to_bytes(2, 'big') for s in samples))
+            f.write(b'P%d\n%d %d\n%d\n' % (5 if components == 1 else 6, width, height, (1 << 8 + planes) - 1) + b''.join(s.to_bytes(2, 'big') for s in samples))
     theirs = reference(sys.argv[1])
     if theirs is None:
         print('the reference decoder is not there (apt-get install libjpeg-tools)')

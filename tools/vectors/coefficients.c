@@ -1,5 +1,5 @@
-/* coefficients FILE: the quantised coefficients of a one-component JPEG, from libjpeg's own coefficient calls.
- * First line: blocks across, blocks down. Then a line for each block, 64 numbers in zigzag order. */
+/* coefficients FILE: the quantised coefficients of a JPEG without subsampling, from libjpeg's own coefficient calls.
+ * First line: blocks across, blocks down. Then a line for each block, 64 numbers in zigzag order; one component behind the other. */
 #include <stdio.h>
 #include <jpeglib.h>
 
@@ -20,8 +20,8 @@ int main(int argc, char **argv)
     jvirt_barray_ptr *arrays = jpeg_read_coefficients(&in);
     unsigned across = (in.image_width + 7) / 8, down = (in.image_height + 7) / 8;
     printf("%u %u\n", across, down);
-    for (unsigned y = 0; y < down; y++) {
-        JBLOCKARRAY row = (*in.mem->access_virt_barray)((j_common_ptr)&in, arrays[0], y, 1, FALSE);
+    for (unsigned y = 0; y < in.num_components * down; y++) {
+        JBLOCKARRAY row = (*in.mem->access_virt_barray)((j_common_ptr)&in, arrays[y / down], y % down, 1, FALSE);
         for (unsigned x = 0; x < across; x++) {
             for (int k = 0; k < 64; k++) printf("%d%c", row[0][x][natural[k]], k == 63 ? '\n' : ' ');
         }

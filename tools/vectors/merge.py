@@ -1,11 +1,12 @@
 #!/usr/bin/env python3
-"""Cases for the merge (docs/RULES.md, M) with exact fractions, written from the rules and from nothing else.
+"""Cases for the merge (docs/RULES.md, M) with exact fractions, written from the rules and from nothing else; and colours of the ISO reference software (colours.txt, made by colours.py), to which step 1 is held.
 
   merge.py CASES LINES     writes the cases (their number, then each: fourteen numbers, nine weights, three lists) and the lines that are expected
 
 crates/merge_vectors reads the cases on standard input and must write the lines:
   python3 tools/vectors/merge.py crates/merge_vectors/stdin crates/merge_vectors/stdout && rt check merge_vectors
 """
+import os
 import random
 import sys
 from fractions import Fraction as F
@@ -47,6 +48,12 @@ def ycbcr(y, cb, cr, centre):
     return [F(y) + F(1402000, 10**6) * cr,
             F(y) - F(344136, 10**6) * cb - F(714136, 10**6) * cr,
             F(y) + F(1772000, 10**6) * cb]
+
+
+def reference_colours(rh):
+    """Y, Cb, Cr and the red, green, blue that the ISO reference software shows for them, at Rh."""
+    with open(os.path.join(os.path.dirname(os.path.abspath(__file__)), 'colours.txt')) as f:
+        return [line[1:] for line in (list(map(int, text.split())) for text in f) if line[0] == rh]
 
 
 class Case:
@@ -195,6 +202,11 @@ def cases():
             yield Case(rb=rb, rh=rh, rr=rr, components=3, pixels=len(colours), base_transform=base_transform, residual_on=1, residual_transform=residual_transform,
                        base=[p[k] for k in range(3) for p in colours], residual=[p[k] for k in range(3) for p in tints])
         yield Case(rb=rb, rh=rh, components=3, pixels=len(colours), base_transform=1, base=[p[k] for k in range(3) for p in colours])
+    # colours of the reference software, twelve at a time: the straight curve leaves them at Rb = Rh, and makes 257 of 1 at Rh 0 and Rb 8
+    for rh, six in ((rh, reference_colours(rh)[i:i + 12]) for rh in range(5) for i in (0, 12)):
+        case = Case(rb=rh or 8, rh=rh, components=3, pixels=len(six), base_transform=1, base=[p[k] for k in range(3) for p in six])
+        assert case.answer() == (0, 3 * len(six), [p[k] * (1 if rh else 257) for k in range(3, 6) for p in six])
+        yield case
     # far values through step 1
     for rh in range(5):
         yield Case(rb=8, rh=rh, components=3, pixels=5, base_transform=1, base=[MIN, MAX, 0, 300, -300, MAX, MIN, 0, 128, 500, MIN, MAX, 0, 28, 128])
