@@ -1,5 +1,5 @@
 #!/usr/bin/env python3
-"""read.py PICTURE [OUT]: one JPEG XT picture read through, grey, or in colour without subsampling and without a residual: boxes, refinement planes, transform, merge with its TONE table (OUT is a PGM or PPM file); compared with
+"""read.py PICTURE [OUT]: one JPEG XT picture read through, grey or in colour without subsampling: boxes, refinement planes, transform, merge with its TONE table (OUT is a PGM or PPM file); compared with
 the reference decoder (`jpeg` of Debian's libjpeg-tools) where that is there, and with that decoder's arithmetic, rebuilt here by trial, on the same values. The base coefficients are lent numbers to the reader: they stand in
 PICTURE.base, or come from libjpeg (tools/vectors/coefficients.c: gcc and libjpeg62-turbo-dev). Needs the library first (library.py)."""
 import os, shutil, subprocess, sys, tempfile
@@ -99,23 +99,26 @@ def decoder_samples(blocks, quantisers, planes):
     return out
 
 
-def decoder_colours(rh, planes):
-    """The reference decoder's base transform, rebuilt by trial, of samples in sixteenths: weights in 8192ths, the centre 2^(7+Rh), one rounding to wholes."""
-    centre, weights = 1 << 11 + rh, ((0, 11485), (-2819, -5850), (14516, 0))
-    return [[(8192 * y + l * (cb - centre) + m * (cr - centre) + (1 << 16) >> 17) << 4 for y, cb, cr in zip(*planes)] for l, m in weights]
+def decoder_colours(bits, planes, places):
+    """The reference decoder's transform, rebuilt by trial, of the three planes of samples of so many bits, in sixteenths: weights in 8192ths, the centre half of their range, one rounding, by so many binary places more."""
+    centre, weights = 1 << 3 + bits, ((0, 11485), (-2819, -5850), (14516, 0))
+    return [[8192 * y + l * (cb - centre) + m * (cr - centre) + (1 << 12 + places) >> 13 + places << places for y, cb, cr in zip(*planes)] for l, m in weights]
 
 
 def decoder_merge(rb, rh, rr, base, table, residual):
-    """The reference decoder's merge, rebuilt by trial, of one component's samples in sixteenths: the base is rounded before its curve, the residual is clipped to its range and keeps its sixteenths."""
+    """The reference decoder's merge, rebuilt by trial, of planes of samples in sixteenths: the base is rounded before its curve; the residual is clipped to its range, before its transform and again behind it, and keeps its sixteenths."""
     clip = lambda v, bits: max(0, min(v, (1 << bits) - 1))
+    top, full = (1 << 8 + rh) - 1, (1 << 8 + rb) - 1
+    scaled = lambda r: r << rb - rr if rb >= rr else r + (1 << rr - rb - 1) >> rr - rb
+    residual = [[scaled(clip(r, 12 + rr)) for r in plane] for plane in residual]
+    if len(base) == 3:
+        base, coloured = decoder_colours(8 + rh, base, 4), decoder_colours(8 + rb, residual, 0) if residual else []
+        residual = [[clip(r, 12 + rb) for r in plane] for plane in coloured]
     out = []
-    for i, b in enumerate(base):
-        b, top, full = clip(b + 8 >> 4, 8 + rh), (1 << 8 + rh) - 1, (1 << 8 + rb) - 1
-        t = 16 * (table[b] if table else (2 * b * full + top) // (2 * top))
-        if residual:
-            r = clip(residual[i], 12 + rr)
-            t += (r << rb - rr if rb >= rr else r + (1 << rr - rb - 1) >> rr - rb) - (1 << 11 + rb)
-        out.append(clip(t + 8 >> 4, 8 + rb))
+    for plane, added in zip(base, residual or [[1 << 11 + rb] * len(plane) for plane in base]):
+        base_at = [clip(b + 8 >> 4, 8 + rh) for b in plane]
+        curved = [16 * (table[b] if table else (2 * b * full + top) // (2 * top)) for b in base_at]
+        out.append([clip(t + r - (1 << 11 + rb) + 8 >> 4, 8 + rb) for t, r in zip(curved, added)])
     return out
 
 
@@ -161,24 +164,19 @@ def read(path, say=print):
     number, _, tone = box(file, b'TONE', 1)
     table = [int.from_bytes(tone[i:i + 2], 'big') for i in range(1, len(tone) - 1, 2)] if number == 0 else []
     number, _, codestream = box(file, b'RESI', 1)
-    residual, residual16, rr, components = [[]], [[]], 0, len(base)
+    residual, residual16, rr = [], [], 0
     if number == 0:
-        if components > 1:
-            raise SystemExit('a residual in colour is not read here')
         inner = os.path.join(TMP, 'residual.jpg')
         with open(inner, 'wb') as f:
             f.write(codestream)
         _, _, rr, residual, residual16 = samples_of('residual', inner, codestream, all_boxes(file, b'RFIN'), say)
     bits = output_bits(file)
-    answer = merge(bits - 8, planes, rr, components, sum(base, []), table, sum(residual, []))
+    answer = merge(bits - 8, planes, rr, len(base), sum(base, []), table, sum(residual, []))
     if answer[0]:
         refuse('merge', answer)
     say(f'merged: {answer[1]} samples of {bits} bits, from {min(answer[2])} to {max(answer[2])}')
-    if components == 3:
-        base16 = decoder_colours(planes, base16)
-    as_decoder = [decoder_merge(bits - 8, planes, rr, b, table, residual16[0]) for b in base16]
-    n = width * height
-    return width, height, bits - 8, components, pixel_by_pixel([answer[2][n * k:n * k + n] for k in range(components)]), pixel_by_pixel(as_decoder)
+    n, as_decoder = width * height, decoder_merge(bits - 8, planes, rr, base16, table, residual16)
+    return width, height, bits - 8, len(base), pixel_by_pixel([answer[2][n * k:n * k + n] for k in range(len(base))]), pixel_by_pixel(as_decoder)
 
 
 def reference(path):
