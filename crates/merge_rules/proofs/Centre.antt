@@ -37,13 +37,20 @@ nearest-whole y m h =
     (≤-of _ _ (omega (arith, times (2 * m) y, times 2 (pos m *ℤ y), times m y, pos-up m, pos-dn m)))
     (<-of _ _ (omega (arith, times (2 * m) (y +ℤ pos 1), times 2 (pos m *ℤ y), times m y, ap (λ n. m * n) (sum y (pos 1)), ap (λ n. m * n) (pos-up 1), ap (λ n. m * n) (pos-dn 1), pos-up m, pos-dn m)))
 
--- colour differences of 0 leave Y, whatever their weights
+-- a colour difference of 0 adds nothing, whatever its weight
 untinted : (l m y : ℤ) → tinted l m y (pos 0) (pos 0) ≡ y
 unfolding tinted row
 untinted l m y = rw (*ℤ-zero l, *ℤ-zero m, +ℤ-idr (pos 1000000 *ℤ y), +ℤ-idr (pos 1000000 *ℤ y)) (nearest-whole y 1000000 (omega arith))
 
+all-untinted : (k l m n o p y : ℤ) → triple (tinted k l y (pos 0) (pos 0)) (tinted m n y (pos 0) (pos 0)) (tinted o p y (pos 0) (pos 0)) ≡ triple y y y
+all-untinted k l m n o p y = rw (untinted k l y, untinted m n y, untinted o p y)
+
+no-tints : (y : ℤ) → tints y (pos 0) (pos 0) ≡ triple y y y
+unfolding tints
+no-tints y = all-untinted _ _ _ _ _ _ y
+
 -- a pixel whose colour differences stand at the centre keeps its Y in all three components, clipped, at every Rh
 pub grey : (s : Setting) (y : ℤ) → s .«base_transform» ≡ Transform
     → stepOne s (triple y (pos (2 ^ (7 + s .rh))) (pos (2 ^ (7 + s .rh)))) ≡ triple (clip y (top (s .rh))) (clip y (top (s .rh))) (clip y (top (s .rh)))
-unfolding stepOne recolour transform tints firstCentre each
-grey s y e = rw (e, +ℤ-invr, untinted, untinted, untinted)
+unfolding stepOne recolour transform firstCentre each
+grey s y e = rw (e, +ℤ-invr, no-tints)
