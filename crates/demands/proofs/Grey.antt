@@ -1,23 +1,21 @@
 -- Grey stays grey: the samples of a block of zeros are the centre of step 1, and a pixel there is one number three times through all steps. Assumes nothing.
 use mathlib.Core.Path.{_≡_, refl, sym, ap, subst, _∙_}
 use mathlib.Core.List.{List, [], _∷_}
-use Prim.Native.Nat.{ℕ, zero, suc, _+_, _*_, _/_, _%_, _^_, _<_}
+use Prim.Native.Nat.{ℕ, zero, suc, _+_, _*_, _^_, _<_}
 use native.Mathlib.Omega.{arith}
-use lib.Dec.{ltb, ltb→lt}
 use lib.Arith.{digits-div, digits-mod}
 use lib.IntN.{ℤ, pos, _+ℤ_, _*ℤ_, +ℤ-idl, *ℤ-zero, zero-*ℤ}
 use lib.ListN.{getD, replicate, getD-replicate}
 use lib.Signed.{shrZ}
 use Rattle.laws.specs.Index.{sumTo, every}
 use Rattle.laws.specs.First.{firstFail, orHere}
-use Rattle.laws.proofs.Lists.{each}
 use Rattle.laws.proofs.Sums.{sum-ext}
 use Rattle.levels.specs.Level.{inLevel, isDc, inside, firstOutside}
 use Rattle.transform_rules.specs.Cosines.{kernel}
-use Rattle.transform_rules.specs.Zigzag.{firstRow, lastRow, placesBefore, zigzag}
+use Rattle.transform_rules.specs.Zigzag.{zigzag, zigzagAt}
 use Rattle.transform_rules.specs.Picture as blockwise
 use Rattle.transform_rules.specs.Call.{isQuantiser, firstBadQuantiser}
-use Rattle.transform_rules.proofs.Lengths.{picture-length}
+use Rattle.transform_rules.proofs.Lengths.{picture-length, zigzag-small}
 use Rattle.merge_rules.specs.Near.{clip, top}
 use Rattle.merge_rules.specs.Curves.{curved}
 use Rattle.merge_rules.specs.declared.Setting.{Setting}
@@ -35,10 +33,8 @@ use Rattle.demands.proofs.Values.{samples-are, results-are}
 -- ---- a block of zeros
 
 zigzag-below : (v u : ℕ) → v < 8 → u < 8 → zigzag v u < 64
-unfolding zigzag firstRow lastRow placesBefore
-zigzag-below v u hv hu =
-    let t = each 64 (λ p. ltb (zigzag (p / 8) (p % 8)) 64) tt (v * 8 + u) (omega arith) in
-    ltb→lt (zigzag v u) 64 (rw (digits-div v hu, digits-mod v hu) at t)
+unfolding zigzagAt
+zigzag-below v u hv hu = rw (digits-div v hu, digits-mod v hu) at (zigzag-small (v * 8 + u) (omega arith))
 
 module _ (values : List ℤ) (quantisers : List ℕ) (block : ℕ) (zeros : (i : ℕ) → i < 64 → getD values (block * 64 + i) (pos 0) ≡ pos 0) (y x : ℕ) where
   no-product : (v u : ℕ) → v < 8 → u < 8

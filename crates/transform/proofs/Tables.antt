@@ -2,7 +2,7 @@
 use mathlib.Core.Path.{_≡_, refl}
 use mathlib.Core.Bool.{not}
 use mathlib.Core.List.{List, [], _∷_}
-use Prim.Native.Nat.{ℕ, suc, _+_, _^_, _<_, _≤_}
+use Prim.Native.Nat.{ℕ, _+_, _^_, _<_, _≤_}
 use native.Mathlib.Omega.{arith}
 use lib.Dec.{T, eqb, leb, leb→le}
 use lib.IntN.{pos, natAbs}
@@ -37,10 +37,6 @@ order-long = length-tab 64 zigzagAt
 pub order-at : (p : ℕ) → p < 64 → getD zigzagOrder p 0 ≡ zigzagAt p
 unfolding zigzagOrder
 order-at p h = getD-tab 64 zigzagAt 0 p h
-
-pub zigzag-small : (p : ℕ) → p < 64 → zigzagAt p < 64
-unfolding zigzagAt zigzag placesBefore firstRow lastRow
-zigzag-small p h = leb→le (suc (zigzagAt p)) 64 (each 64 (λ k. leb (suc (zigzagAt k)) 64) tt p h)
 
 -- each of the 64 indices has a place: no value and no quantiser is left out, and so none is used twice
 pub zigzag-meets : (i : ℕ) → i < 64 → T (not (allBelow 64 (λ p. not (eqb (zigzagAt p) i))))

@@ -1,17 +1,18 @@
--- How long and how large the dequantised block is, and how long its samples and the picture are. Assumes nothing.
+-- How long and how large the dequantised block is, how long its samples and the picture are, and how large an index of the zigzag order is. Assumes nothing.
 use mathlib.Core.Path.{_≡_}
 use mathlib.Core.Logic.{⊎-elim}
 use mathlib.Core.List.{List}
-use Prim.Native.Nat.{ℕ, _+_, _*_, _^_, _<_, _≤_}
+use Prim.Native.Nat.{ℕ, suc, _+_, _*_, _^_, _<_, _≤_}
 use native.Mathlib.Nat.{le-trans}
 use native.Mathlib.Omega.{arith}
+use lib.Dec.{leb, leb→le}
 use lib.IntN.{ℤ, pos, natAbs}
 use lib.ListN.{length, getD, List·getD-eq-default}
 use Rattle.laws.specs.Index.{tab}
 use Rattle.laws.proofs.Integers.{abs-prod-le, split}
-use Rattle.laws.proofs.Lists.{length-tab, getD-tab, join-length}
+use Rattle.laws.proofs.Lists.{length-tab, getD-tab, join-length, each}
 use Rattle.transform_rules.specs.Samples.{blockSamples, Products}
-use Rattle.transform_rules.specs.Zigzag.{zigzagAt}
+use Rattle.transform_rules.specs.Zigzag.{firstRow, lastRow, placesBefore, zigzag, zigzagAt}
 use Rattle.transform_rules.specs.Picture.{timesQuantiser, dequantised, centre, picture, InRange}
 
 pub block-length : (s : List ℤ) (middle : ℤ) → length (blockSamples s middle) ≡ 64
@@ -21,6 +22,10 @@ block-length s middle = length-tab 64 _
 pub picture-length : (refinement blocks : ℕ) (values : List ℤ) (quantisers : List ℕ) → length (picture refinement blocks values quantisers) ≡ blocks * 64
 unfolding picture
 picture-length refinement blocks values quantisers = join-length 64 blocks _ (λ block. block-length (dequantised values quantisers block) (centre refinement))
+
+pub zigzag-small : (p : ℕ) → p < 64 → zigzagAt p < 64
+unfolding zigzagAt zigzag placesBefore firstRow lastRow
+zigzag-small p h = leb→le (suc (zigzagAt p)) 64 (each 64 (λ k. leb (suc (zigzagAt k)) 64) tt p h)
 
 module _ (values : List ℤ) (quantisers : List ℕ) (block : ℕ) (h : InRange values quantisers) where
   one : ℕ → ℤ

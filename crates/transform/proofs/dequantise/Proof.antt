@@ -11,7 +11,8 @@ use Rattle.laws.proofs.Integers.{back}
 use Rattle.laws.proofs.Fill.{front, front-start, front-length, front-turn, front-end}
 use Rattle.transform_rules.specs.Zigzag.{zigzagAt}
 use Rattle.transform_rules.specs.Picture.{timesQuantiser, dequantised}
-use Rattle.transform.proofs.Tables.{order-long, order-at, zigzag-small}
+use Rattle.transform_rules.proofs.Lengths.{zigzag-small}
+use Rattle.transform.proofs.Tables.{order-long, order-at}
 use Rattle.transform.proofs.dequantise.Statement.{statement}
 use Rattle.transform.proofs.dequantise.Tie as tie
 
