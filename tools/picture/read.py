@@ -116,8 +116,8 @@ def decoder_merge(rb, rh, rr, base, table, residual):
         residual = [[clip(r, 12 + rb) for r in plane] for plane in coloured]
     out = []
     for plane, added in zip(base, residual or [[1 << 11 + rb] * len(plane) for plane in base]):
-        base_at = [clip(b + 8 >> 4, 8 + rh) for b in plane]
-        curved = [16 * (table[b] if table else (2 * b * full + top) // (2 * top)) for b in base_at]
+        whole = [clip(b + 8 >> 4, 8 + rh) for b in plane]
+        curved = [16 * (table[b] if table else (2 * b * full + top) // (2 * top)) for b in whole]
         out.append([clip(t + r - (1 << 11 + rb) + 8 >> 4, 8 + rb) for t, r in zip(curved, added)])
     return out
 

@@ -17,7 +17,7 @@ def at(name):
 
 
 def coded(rh):
-    """A picture of SIDE * SIDE flat blocks, written with Rh planes: its bytes, and what the decoder shows, as (width of a sample, samples)."""
+    """A picture of SIDE * SIDE flat blocks, written with Rh planes: its bytes, and the samples that the decoder shows, pixel by pixel."""
     top = (256 << rh) - 1
     colours = [[rnd.randint(0, top) for _ in range(3)] for _ in range(SIDE * SIDE)]
     pixel = lambda c: struct.pack('>3H', *c) if top > 255 else bytes(c)
