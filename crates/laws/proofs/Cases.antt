@@ -1,11 +1,12 @@
--- Searches, sums, tables and tests on small lists, worked out by hand. Assumes nothing.
+-- Searches, sums, tables and tests on small lists, and distances of rounded numbers, worked out by hand. Assumes nothing.
 use mathlib.Core.Path.{_≡_, refl}
 use mathlib.Core.Bool.{true, false}
 use mathlib.Core.List.{[], _∷_, map}
 use Prim.Native.Nat.{ℕ, _*_}
 use lib.Dec.{ltb}
-use lib.IntN.{pos}
-use Rattle.laws.specs.Index.{sumTo, tab, joinTo, every}
+use lib.IntN.{pos, negsuc}
+use Rattle.laws.specs.Index.{sumTo, totalTo, tab, joinTo, every}
+use Rattle.laws.specs.Apart.{apart, apartRounded}
 use Rattle.laws.specs.First.{firstFail, orHere}
 use Rattle.laws.specs.declared.Found.the-variants.{At, Nothing}
 
@@ -17,6 +18,20 @@ first-of = (refl, refl, refl, refl)
 pub summed : sumTo 4 (λ (i : ℕ). pos (i * i)) ≡ pos 14
 unfolding sumTo
 summed = refl
+
+pub totalled : totalTo 4 (λ (i : ℕ). i * i) ≡ 14
+unfolding totalTo
+totalled = refl
+
+-- how far 20 is from 3 times 6 and 3 times 7, and -20 from 3 times -6
+pub distances : apart 3 (pos 20) (pos 6) ∷ apart 3 (pos 20) (pos 7) ∷ apart 3 (negsuc 19) (negsuc 5) ∷ [] ≡ 2 ∷ 1 ∷ 2 ∷ []
+distances = refl
+
+-- 5/10 against 16 times 0/10 (at most 8 and a half, so 8); two halves of one scale are 0 apart, and with 1 between the numerators 1; 73/10 against 4 times 14/10, both rounded, 7 against 4: 3 tenths less than
+-- the 2 and a half of the roundings and 17 tenths, 4.2 and so 4
+pub roundings : apartRounded 16 0 10 ∷ apartRounded 1 0 10 ∷ apartRounded 1 1 10 ∷ apartRounded 4 17 10 ∷ [] ≡ 8 ∷ 0 ∷ 1 ∷ 4 ∷ []
+unfolding apartRounded
+roundings = refl
 
 pub tabled : tab 3 (λ (i : ℕ). i * 10) ≡ 0 ∷ 10 ∷ 20 ∷ []
 unfolding tab

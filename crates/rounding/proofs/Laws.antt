@@ -3,7 +3,7 @@ use borrow.Author.Tests.{le-ltb}
 use mathlib.Core.Path.{_≡_, refl, sym, ap, subst, _∙_}
 use mathlib.Core.Bool.{Bool, true, false}
 use Prim.Native.Nat.{ℕ, _+_, _*_, _/_, _%_, _^_, _≤_, _<_, min, zero-le}
-use native.Mathlib.Nat.{mul-le-mul-left, lt-of-mul-lt-mul-left, mod-eq-of-lt}
+use native.Mathlib.Nat.{mul-le-mul-left, lt-of-mul-lt-mul-left}
 use native.Mathlib.Omega.{arith}
 use lib.Dec.{T, leb, leb→le}
 use lib.Pow.{pow-mono}
@@ -12,6 +12,7 @@ use lib.Signed.{ltZ, nonNeg, shrZ}
 use Rattle.laws.proofs.Integers.{up, dn, sum, eqZ, pos-up, pos-dn, neg-up, neg-dn, abs, one, abs-sum, abs-neg, abs-prod-le, ≤-to, <-to, ≤-of, <-of, floor-low, floor-high, floor-abs}
 use Rattle.laws.proofs.Floors.{times, floor-is, floor-scale}
 use Rattle.laws.proofs.Lists.{each}
+use Rattle.laws.proofs.Powers.{one-moved}
 use Rattle.merge_rules.specs.Near.{nearest, clip, row}
 
 -- ---- nearest
@@ -155,9 +156,7 @@ module _ (u v : ℕ) (k l m a b c : ℤ) (hk : natAbs k ≤ u) (hl : natAbs l �
 -- ---- powers of two
 
 pub power-moved : (k : ℕ) → k ≤ 16 → 1 * 2 ^ k % 4294967296 ≡ 2 ^ k
-power-moved k h =
-    let e : 1 * 2 ^ k ≡ 2 ^ k = omega arith in
-    rw e (mod-eq-of-lt (omega (arith, pow-mono {i = k} {j = 16} h)))
+power-moved k h = one-moved k 4294967296 (omega (arith, pow-mono {i = k} {j = 16} h))
 
 pub top-above : (r : ℕ) → r ≤ 8 → 256 ≤ 2 ^ (8 + r)
 top-above r h = leb→le 256 (2 ^ (8 + r)) (each 9 (λ k. leb 256 (2 ^ (8 + k))) tt r (omega arith))
