@@ -3,7 +3,6 @@ use mathlib.Core.Path.{_≡_, refl, sym, ap, subst, _∙_}
 use mathlib.Core.List.{List, [], _∷_}
 use Prim.Native.Nat.{ℕ, zero, suc, _+_, _*_, _^_, _<_}
 use native.Mathlib.Omega.{arith}
-use lib.Arith.{digits-div, digits-mod}
 use lib.IntN.{ℤ, pos, _+ℤ_, _*ℤ_, +ℤ-idl, *ℤ-zero, zero-*ℤ}
 use lib.ListN.{getD, replicate, getD-replicate}
 use lib.Signed.{shrZ}
@@ -12,10 +11,10 @@ use Rattle.laws.specs.First.{firstFail, orHere}
 use Rattle.laws.proofs.Sums.{sum-ext}
 use Rattle.levels.specs.Level.{inLevel, isDc, inside, firstOutside}
 use Rattle.transform_rules.specs.Cosines.{kernel}
-use Rattle.transform_rules.specs.Zigzag.{zigzag, zigzagAt}
+use Rattle.transform_rules.specs.Zigzag.{zigzag}
 use Rattle.transform_rules.specs.Picture as blockwise
 use Rattle.transform_rules.specs.Call.{isQuantiser, firstBadQuantiser}
-use Rattle.transform_rules.proofs.Lengths.{picture-length, zigzag-small}
+use Rattle.transform_rules.proofs.Lengths.{picture-length, zigzag-below}
 use Rattle.merge_rules.specs.Near.{clip, top}
 use Rattle.merge_rules.specs.Curves.{curved}
 use Rattle.merge_rules.specs.declared.Setting.{Setting}
@@ -31,10 +30,6 @@ use Rattle.demands.specs.Grey.{Untinted, GreyStaysGrey, GreyShown}
 use Rattle.demands.proofs.Values.{samples-are, results-are}
 
 -- ---- a block of zeros
-
-zigzag-below : (v u : ℕ) → v < 8 → u < 8 → zigzag v u < 64
-unfolding zigzagAt
-zigzag-below v u hv hu = rw (digits-div v hu, digits-mod v hu) at (zigzag-small (v * 8 + u) (omega arith))
 
 module _ (values : List ℤ) (quantisers : List ℕ) (block : ℕ) (zeros : (i : ℕ) → i < 64 → getD values (block * 64 + i) (pos 0) ≡ pos 0) (y x : ℕ) where
   no-product : (v u : ℕ) → v < 8 → u < 8

@@ -1,8 +1,8 @@
 -- What the tests behind 20 and 21 say when they are passed. Assumes nothing.
 use borrow.Author.Tests.{leb-true, eqb-true}
-use mathlib.Core.Path.{_≡_, refl, sym, ap, _∙_}
+use mathlib.Core.Path.{_≡_, sym, ap, _∙_}
 use mathlib.Core.Logic.{_⊎_, inl, inr}
-use mathlib.Core.Bool.{Bool, true, false, cond}
+use mathlib.Core.Bool.{true, cond}
 use mathlib.Core.List.{List, [], _∷_}
 use Prim.Native.Nat.{ℕ, _*_, _≤_}
 use native.Mathlib.Nat.{mul-le-mul}
@@ -19,15 +19,8 @@ use Rattle.curves.specs.Code.{There}
 use Rattle.merge_rules.specs.declared.Setting.{Setting}
 use Rattle.merge_rules.specs.Steps.{byCurve}
 use Rattle.merge_rules.specs.Settings.{oneOrThree, inRanges, srgbAllowed, isSrgb, samples, residualCount, lengthsRight}
+use Rattle.merge_rules.proofs.Components.{one-or-three}
 use Rattle.settings.specs.Code.{Ranged, Passed, Lending}
-
--- one component or three
-pub one-or-three : (c : ℕ) → oneOrThree c ≡ true → (c ≡ 1) ⊎ (c ≡ 3)
-one-or-three c e = by (eqb c 1) refl
-  where
-    by : (t : Bool) → eqb c 1 ≡ t → (c ≡ 1) ⊎ (c ≡ 3)
-    by true q = inl (eqb-true c 1 q)
-    by false q = inr (eqb-true c 3 (sym (ap (λ t. cond t true (eqb c 3)) q) ∙ e))
 
 pub count-small : (c n : ℕ) → oneOrThree c ≡ true → n ≤ 65536 → c * n ≤ 196608
 count-small c n e h = mul-le-mul (three (one-or-three c e)) h

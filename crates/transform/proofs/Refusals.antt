@@ -1,26 +1,22 @@
 -- The verdicts of the call, one law for each, and what the tests that were passed say to the code. Assumes nothing.
 use mathlib.Core.Path.{_≡_}
 use mathlib.Core.Bool.{true}
-use mathlib.Core.Logic.{⊎-elim}
 use mathlib.Core.List.{List, [], _∷_}
 use Prim.Native.Nat.{ℕ, _*_, _<_, _≤_}
 use native.Mathlib.Omega.{arith}
-use borrow.Author.Tests.{lt-leb, le-leb, eq-eqb, ne-eqb, leb-true}
+use borrow.Author.Tests.{lt-leb, le-leb, eq-eqb, ne-eqb}
 use lib.Dec.{leb, eqb}
 use lib.IntN.{ℤ}
-use lib.ListN.{length, getD, List·getD-eq-default}
+use lib.ListN.{length}
 use Rattle.laws.specs.Index.{every}
 use Rattle.laws.specs.declared.Found.the-variants.{At, Nothing}
-use Rattle.laws.proofs.First.{first-none}
-use Rattle.laws.proofs.Integers.{split}
-use Rattle.laws.proofs.Lists.{every-first, every-rest}
 use Rattle.answers.specs.Verdict.{Verdict, refused, refusal, given}
 use Rattle.levels.specs.Level.{firstOutside}
 use Rattle.levels.specs.declared.Part.the-variants.{Whole}
 use Rattle.levels.proofs.Ranges.{all-small}
 use Rattle.transform_rules.specs.Picture.{picture, InRange}
-use Rattle.transform_rules.specs.Call.{isQuantiser, firstBadQuantiser, inverseTransform}
-use Rattle.transform_rules.proofs.Lengths.{picture-length}
+use Rattle.transform_rules.specs.Call.{firstBadQuantiser, inverseTransform}
+use Rattle.transform_rules.proofs.Lengths.{picture-length, quantiser-small}
 
 module _ (refinement blocks : ℕ) (values : List ℤ) (quantisers : List ℕ) (room : ℕ) where
   abbrev verdict : Verdict ℤ
@@ -74,15 +70,7 @@ module _ (refinement blocks : ℕ) (values : List ℤ) (quantisers : List ℕ) (
 
 -- what the code then asks
 module _ (values : List ℤ) (quantisers : List ℕ) where
-  quantiser-small : firstBadQuantiser quantisers ≡ Nothing → (k : ℕ) → getD quantisers k 0 ≤ 255
-  unfolding firstBadQuantiser isQuantiser
-  quantiser-small sound k =
-      let q = getD quantisers k 0 in
-      ⊎-elim (λ (l : k < length quantisers). leb-true q 255 (every-first (leb q 255) [] (every-rest (leb 1 q) (leb q 255 ∷ []) (first-none (length quantisers) _ sound k l))))
-      (λ (l : length quantisers ≤ k). rw (List·getD-eq-default quantisers 0 {n = k} l) (omega arith))
-      (split k (length quantisers))
-
   pub in-range : (refinement : ℕ) → refinement ≤ 4 → length quantisers ≡ 64 → firstBadQuantiser quantisers ≡ Nothing
       → firstOutside Whole refinement values ≡ Nothing → InRange values quantisers
   in-range refinement level tabled sound inside =
-      record { tabled = tabled; valued = all-small Whole refinement values level inside; quantised = quantiser-small sound }
+      record { tabled = tabled; valued = all-small Whole refinement values level inside; quantised = quantiser-small quantisers sound }

@@ -82,6 +82,13 @@ const ZIGZAG: [usize; 64] = [
     63,
 ];
 
+// The same for other rooms.
+pub fn zigzag_order() -> [usize; 64]
+    ensures { λ r. ⌜ r ≡ zigzagOrder ⌝ }
+{
+    ZIGZAG
+}
+
 // 2^(7+R).
 const CENTRES: [i64; 5] = [128, 256, 512, 1024, 2048];
 
@@ -169,7 +176,7 @@ fn is_quantiser(entry: u16) -> bool
 }
 
 // The first index whose quantiser is not 1 to 255.
-fn first_bad_quantiser(quantisers: &[u16]) -> Found
+pub fn first_bad_quantiser(quantisers: &[u16]) -> Found
     ensures { λ r. ⌜ r ≡ firstBadQuantiser (now (quantisers .entry)) ⌝ }
 {
     let mut i = 0;

@@ -1,7 +1,7 @@
 -- `fills::fill_by` meets its contract: one component or three. Assumes nothing.
 use borrow.Author.Needs.{needs}
 use mathlib.Core.Logic.{⊎-elim}
-use Rattle.settings.proofs.Laws.{one-or-three}
+use Rattle.merge_rules.proofs.Components.{one-or-three}
 use Rattle.fills.proofs.fill_by.Statement.{statement}
 use Rattle.fills.proofs.fill_by.Tie as tie
 
