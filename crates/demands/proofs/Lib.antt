@@ -11,6 +11,8 @@ pub mod Three
 pub mod Cases
 pub mod Srgb
 pub mod Grey
+pub mod Preview
+pub mod PreviewResults
 pub mod Shams
 pub mod Practice
 pub mod Written

@@ -30,6 +30,9 @@ use Rattle.plane_rules.specs.AcWrite.{Token, code, raw, tokens, orElse, lacking
 use Rattle.transform_rules.specs.Picture.{picture}
 use Rattle.transform_rules.specs.Call.{isQuantiser, firstBadQuantiser, inverseTransform}
 use Rattle.transform_rules.proofs.Lengths.{picture-length}
+use Rattle.preview_rules.specs.Owed.{owedBlock}
+use Rattle.preview_rules.specs.Call.{previewOwes}
+use Rattle.preview_rules.proofs.Lengths.{block-long}
 use Rattle.merge_rules.specs.Near.{top}
 use Rattle.merge_rules.specs.declared.Setting.{Setting}
 use Rattle.merge_rules.specs.Settings.{inRanges, plain, srgbAllowed, samples, lengthsRight, entryRight}
@@ -37,7 +40,7 @@ use Rattle.merge_rules.specs.Picture as merging
 use Rattle.merge_rules.specs.Picture.{merge, mergeTests}
 use Rattle.merge_laws.proofs.Order.{picture-long}
 use Rattle.merge_rules.specs.Call.{matrixCount, settingNumber, mergeCall}
-use Rattle.demands.specs.One.{Rows, row, rows, stands, _then_, failing, needed, First, FirstLacking, boxRows, packetRows, listRows, dcReadRows, acReadRows, dcWriteRows, acWriteRows, transformRows, mergeRows, mergeCallRows, DemandOne}
+use Rattle.demands.specs.One.{Rows, row, rows, stands, _then_, failing, needed, First, FirstLacking, boxRows, packetRows, listRows, dcReadRows, acReadRows, dcWriteRows, acWriteRows, badQuantiser, transformRows, previewRows, mergeRows, mergeCallRows, DemandOne}
 use Rattle.demands.specs.Blocks.{oneDc, oneAc}
 use Rattle.demands.proofs.Rows.{Judged, need-judged, failing-judged, unless-judged, fitting-judged, first-index, index-first, NoZero, answered}
 use Rattle.demands.proofs.Blocks.{dc-stops, stops-dc, dc-left, left-dc, ac-stops, stops-ac, ac-left, left-ac}
@@ -59,6 +62,14 @@ module _ {A : Type 0} {later : Rows} {room : ℕ} where
       → Judged (row 11 (First (length values) (inside part level values)) then later) room (unless 11 (firstOutside part level values) next)
   outside-judged part level values next =
       unless-judged (First (length values) (inside part level values)) 11 (firstOutside part level values) next (outside-first part level values) (first-outside part level values)
+
+  -- 22
+  quantisers-judged : (quantisers : List ℕ) (next : Verdict A) → (firstBadQuantiser quantisers ≡ Nothing → Judged later room next)
+      → Judged (badQuantiser quantisers then later) room (unless 22 (firstBadQuantiser quantisers) next)
+  unfolding firstBadQuantiser
+  quantisers-judged quantisers next =
+      let good : ℕ → Bool = λ i. isQuantiser (getD quantisers i 0) in
+      unless-judged (First (length quantisers) good) 22 (firstBadQuantiser quantisers) next (first-index (length quantisers) good) (index-first (length quantisers) good)
 
   -- 9 where the length needed is known before anything is read
   room-judged : (n : ℕ) (next : Verdict A) → (leb n room ≡ true → Judged later room next) → Judged (row 9 (needed n room) then later) room (need (leb n room) 9 n next)
@@ -193,14 +204,21 @@ ac-write-judged plane blocks codes values room =
 -- ---- the transform and the merge
 
 pub transform-judged : (refinement blocks : ℕ) (values : List ℤ) (quantisers : List ℕ) (room : ℕ) → Judged (transformRows refinement blocks values quantisers room) room (inverseTransform refinement blocks values quantisers room)
-unfolding inverseTransform transformRows firstBadQuantiser
+unfolding inverseTransform transformRows
 transform-judged refinement blocks values quantisers room =
     failing-judged (every (leb refinement 4 ∷ leb blocks 1024 ∷ [])) 20 _ λ e.
     failing-judged (every (eqb (length values) (blocks * 64) ∷ eqb (length quantisers) 64 ∷ [])) 21 _ λ f.
-    unless-judged (First (length quantisers) (λ i. isQuantiser (getD quantisers i 0))) 22 (firstFail (length quantisers) (λ i. isQuantiser (getD quantisers i 0))) _
-    (first-index (length quantisers) (λ i. isQuantiser (getD quantisers i 0))) (index-first (length quantisers) (λ i. isQuantiser (getD quantisers i 0))) λ q.
+    quantisers-judged quantisers _ λ q.
     outside-judged Whole refinement values _ λ o.
     fitting-judged room (blocks * 64) (picture refinement blocks values quantisers) (picture-length refinement blocks values quantisers)
+
+pub preview-judged : (left : ℕ) (quantisers : List ℕ) (room : ℕ) → Judged (previewRows left quantisers room) room (previewOwes left quantisers room)
+unfolding previewOwes previewRows
+preview-judged left quantisers room =
+    failing-judged (leb left 4) 20 _ λ e.
+    failing-judged (eqb (length quantisers) 64) 21 _ λ f.
+    quantisers-judged quantisers _ λ q.
+    fitting-judged room 64 (owedBlock left quantisers) (block-long left quantisers)
 
 -- the merge behind its settings: 21, 11, 9
 module _ (s : Setting) (pixels : ℕ) (base residual : List ℤ) (table : List ℕ) (room : ℕ) where
@@ -300,6 +318,10 @@ unfolding transformRows
 transform-zero refinement blocks values quantisers room =
     row-zero 20 _ (omega arith) and row-zero 21 _ (omega arith) and row-zero 22 _ (omega arith) and row-zero 11 _ (omega arith) and row-zero 9 _ (omega arith)
 
+pub preview-zero : (left : ℕ) (quantisers : List ℕ) (room : ℕ) → NoZero (previewRows left quantisers room)
+unfolding previewRows
+preview-zero left quantisers room = row-zero 20 _ (omega arith) and row-zero 21 _ (omega arith) and row-zero 22 _ (omega arith) and row-zero 9 _ (omega arith)
+
 pub merge-zero : (s : Setting) (pixels : ℕ) (base residual : List ℤ) (table : List ℕ) (room : ℕ) → NoZero (mergeRows s pixels base residual table room)
 unfolding mergeRows
 merge-zero s pixels base residual table room =
@@ -320,6 +342,7 @@ demand-one = record {
   dcWrite = λ plane blocks values before. answered 0 (dc-write-zero plane blocks values (length before)) before _ (dc-write-judged plane blocks values (length before));
   acWrite = λ plane blocks codes values before. answered 0 (ac-write-zero plane blocks codes values (length before)) before _ (ac-write-judged plane blocks codes values (length before));
   transforms = λ refinement blocks values quantisers before. answered (pos 0) (transform-zero refinement blocks values quantisers (length before)) before _ (transform-judged refinement blocks values quantisers (length before));
+  previews = λ left quantisers before. answered 0 (preview-zero left quantisers (length before)) before _ (preview-judged left quantisers (length before));
   merges = λ s pixels base residual table before. answered 0 (merge-zero s pixels base residual table (length before)) before _ (merge-judged s pixels base residual table (length before));
   mergeCalls = λ named s pixels base residual table matrix before.
       answered 0 (call-zero named s pixels base residual table matrix (length before)) before _ (call-judged s pixels base residual table (length before) named matrix);

@@ -14,7 +14,7 @@ use Rattle.laws.specs.Index.{every}
 use Rattle.laws.proofs.Choices.{cond-left, cond-right}
 use Rattle.answers.specs.Verdict.{Verdict, given}
 use Rattle.plane_rules.specs.Levels.{downward, climb}
-use Rattle.demands.specs.One.{Rows, stands, row, rows, _then_, Succeeded, Turned, packetRows, boxRows, listRows, dcReadRows, acReadRows, dcWriteRows, acWriteRows, transformRows, mergeRows}
+use Rattle.demands.specs.One.{Rows, stands, row, rows, _then_, Succeeded, Turned, packetRows, boxRows, listRows, dcReadRows, acReadRows, dcWriteRows, acWriteRows, transformRows, previewRows, mergeRows}
 use Rattle.demands.specs.Three.{Both, levelOf}
 use Rattle.demands.specs.Shams.{OneOutcome, OneRefusal, Only, NumbersAre, caseD, AlwaysRefusing, caseE, OnePicture, KeptOnRefusal, PlaneUntouched, FinalAtOnce, DoubledUnread, ShamsRefuted}
 use Rattle.demands.specs.Cases.{Result, naturals, integers, resultOf, Case, onlyDc, everywhere, whiteboard}
@@ -59,7 +59,7 @@ module _ {numbers : List ℕ} where
   _with_ f g = record { among = λ n p. ⊎-elim (f .among n p) (λ h. g .among n p (h .1)) }
 
 numbers-are : NumbersAre
-unfolding included boxRows packetRows listRows dcReadRows acReadRows dcWriteRows acWriteRows transformRows mergeRows
+unfolding included boxRows packetRows listRows dcReadRows acReadRows dcWriteRows acWriteRows transformRows previewRows mergeRows
 numbers-are = record {
   boxes = λ file kind instance room.
       row-in 1 _ tt with rows-in (2 ∷ 3 ∷ []) _ refl with row-in 4 _ tt with row-in 5 _ tt with row-in 6 _ tt with row-in 7 _ tt with row-in 8 _ tt with row-in 9 _ tt;
@@ -70,6 +70,7 @@ numbers-are = record {
   dcWrite = λ plane blocks values room. row-in 20 _ tt with row-in 21 _ tt with row-in 11 _ tt with row-in 9 _ tt;
   acWrite = λ plane blocks codes values room. row-in 20 _ tt with row-in 21 _ tt with row-in 10 _ tt with row-in 11 _ tt with row-in 19 _ tt with row-in 9 _ tt;
   transforms = λ refinement blocks values quantisers room. row-in 20 _ tt with row-in 21 _ tt with row-in 22 _ tt with row-in 11 _ tt with row-in 9 _ tt;
+  previews = λ left quantisers room. row-in 20 _ tt with row-in 21 _ tt with row-in 22 _ tt with row-in 9 _ tt;
   merges = λ s pixels base residual table room. row-in 20 _ tt with row-in 20 _ tt with row-in 20 _ tt with row-in 21 _ tt with row-in 11 _ tt with row-in 9 _ tt;
 }
 

@@ -32,11 +32,13 @@ use Rattle.merge_rules.specs.declared.Setting.{Setting}
 use Rattle.merge_rules.specs.Settings.{inRanges, plain, srgbAllowed, lengthsRight, entryRight}
 use Rattle.merge_rules.specs.Picture.{mergedPicture, merge, mergeTests}
 use Rattle.merge_rules.specs.Call.{matrixCount, mergeCall}
+use Rattle.preview_rules.specs.Owed.{owedBlock}
+use Rattle.preview_rules.specs.Call.{previewOwes}
 use Rattle.demands.specs.One.{Rows}
-use Rattle.demands.specs.Two.{Exactly, Listed, DcRefined, AcRefined, DcCoded, AcCoded, Sampled, Merged, MergeCalled, DemandTwo}
+use Rattle.demands.specs.Two.{Exactly, Listed, DcRefined, AcRefined, DcCoded, AcCoded, Sampled, Owing, Merged, MergeCalled, DemandTwo}
 use Rattle.demands.proofs.Rows.{Keeps, refuses, Judged, NoZero}
 use Rattle.demands.proofs.Walked.{box-judged}
-use Rattle.demands.proofs.One.{list-judged, list-zero, dc-read-judged, ac-read-judged, dc-write-judged, ac-write-judged, transform-judged, merge-judged, call-judged, call-is, lentMerge, lent-merge, call-zero, box-zero, dc-read-zero, ac-read-zero, dc-write-zero, ac-write-zero, transform-zero, merge-zero}
+use Rattle.demands.proofs.One.{list-judged, list-zero, dc-read-judged, ac-read-judged, dc-write-judged, ac-write-judged, transform-judged, preview-judged, merge-judged, call-judged, call-is, lentMerge, lent-merge, call-zero, box-zero, dc-read-zero, ac-read-zero, dc-write-zero, ac-write-zero, transform-zero, preview-zero, merge-zero}
 
 -- ---- from a verdict to what was written
 
@@ -182,6 +184,21 @@ module _ (refinement blocks : ℕ) (values : List ℤ) (quantisers : List ℕ) (
   sampled-given ys h =
       rw (h .counts, h .lengths, h .quantised, h .ranged) (fits-given room (blockwise.picture refinement blocks values quantisers) ys (h .samples) (h .fits))
 
+module _ (left : ℕ) (quantisers : List ℕ) (room : ℕ) where
+  owing : (ys : List ℕ) → previewOwes left quantisers room ≡ given ys → Owing left quantisers room ys
+  unfolding previewOwes
+  owing ys e =
+      let a = need-given (leb left 4) 20 0 _ ys e in
+      let b = need-given (eqb (length quantisers) 64) 21 0 _ ys (a .1) in
+      let q = unless-given 22 (firstBadQuantiser quantisers) _ ys (b .1) in
+      let h = fitted room (owedBlock left quantisers) ys (q .1) in
+      record { counts = a .0; long = eqb-true (length quantisers) 64 (b .0); quantised = q .0; numbers = h .0; fits = h .1 }
+
+  owing-given : (ys : List ℕ) → Owing left quantisers room ys → previewOwes left quantisers room ≡ given ys
+  unfolding previewOwes
+  owing-given ys h =
+      rw (h .counts, eq-eqb (length quantisers) 64 (h .long), h .quantised) (fits-given room (owedBlock left quantisers) ys (h .numbers) (h .fits))
+
 module _ (s : Setting) (pixels : ℕ) (base residual : List ℤ) (table : List ℕ) (room : ℕ) where
   merged : (ys : List ℕ) → merge s pixels base residual table room ≡ given ys → Merged s pixels base residual table room ys
   unfolding merge mergeTests
@@ -244,6 +261,8 @@ demand-two = record {
       exactly 0 (ac-write-zero plane blocks codes values (length before)) before _ (ac-write-judged plane blocks codes values (length before)) (ac-coded plane blocks values (length before) codes) (coded-ac plane blocks values (length before) codes);
   transforms = λ refinement blocks values quantisers before.
       exactly (pos 0) (transform-zero refinement blocks values quantisers (length before)) before _ (transform-judged refinement blocks values quantisers (length before)) (sampled refinement blocks values quantisers (length before)) (sampled-given refinement blocks values quantisers (length before));
+  previews = λ left quantisers before.
+      exactly 0 (preview-zero left quantisers (length before)) before _ (preview-judged left quantisers (length before)) (owing left quantisers (length before)) (owing-given left quantisers (length before));
   merges = λ s pixels base residual table before.
       exactly 0 (merge-zero s pixels base residual table (length before)) before _ (merge-judged s pixels base residual table (length before)) (merged s pixels base residual table (length before)) (merged-given s pixels base residual table (length before));
   mergeCalls = λ named s pixels base residual table matrix before.

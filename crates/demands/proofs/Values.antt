@@ -1,4 +1,4 @@
--- Demand 2's samples and merged results, value by value. Assumes nothing.
+-- Demand 2's samples, what is owed and merged results, value by value. Assumes nothing.
 use mathlib.Core.Path.{_≡_, ap, _∙_}
 use mathlib.Core.List.{List}
 use Prim.Native.Nat.{ℕ, _+_, _*_, _/_, _%_, _^_, _<_}
@@ -17,9 +17,10 @@ use Rattle.transform_rules.specs.Zigzag.{zigzag, zigzagAt}
 use Rattle.transform_rules.specs.Picture as blockwise
 use Rattle.transform_rules.specs.Picture.{timesQuantiser, dequantised, centre}
 use Rattle.transform_rules.proofs.Lengths.{block-length}
+use Rattle.preview_rules.specs.Owed.{owed, owedBlock}
 use Rattle.merge_rules.specs.Pixels.{component}
 use Rattle.merge_rules.specs.Picture.{mergedAt, planes, mergedPicture}
-use Rattle.demands.specs.Two.{sampleAt, SamplesAre, ResultsAre}
+use Rattle.demands.specs.Two.{sampleAt, SamplesAre, OwedAre, ResultsAre}
 
 -- ---- samples
 
@@ -45,6 +46,15 @@ samples-are refinement blocks values quantisers room ys h block y x hb hy hx =
     ∙ getD-join (pos 0) 64 blocks (λ b. blockSamples (dequantised values quantisers b) (centre refinement)) (λ b. block-length (dequantised values quantisers b) (centre refinement)) block (y * 8 + x) hb (omega arith)
     ∙ getD-tab 64 (λ p. sample (dequantised values quantisers block) (centre refinement) (p % 8) (p / 8)) (pos 0) (y * 8 + x) (omega arith)
     ∙ rw (digits-div y hx, digits-mod y hx) (one-sample values quantisers block refinement y x)
+
+-- ---- what is owed
+
+pub owed-are : OwedAre
+unfolding owedBlock
+owed-are left quantisers room ys h y x hy hx =
+    ap (λ (l : List ℕ). getD l (y * 8 + x) 0) (h .numbers)
+    ∙ getD-tab 64 (λ p. owed left quantisers (p / 8) (p % 8)) 0 (y * 8 + x) (omega arith)
+    ∙ rw (digits-div y hx, digits-mod y hx)
 
 -- ---- merged results
 

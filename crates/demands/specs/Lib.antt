@@ -5,6 +5,7 @@ pub mod Three
 pub mod Cases
 pub mod Srgb
 pub mod Grey
+pub mod Preview
 pub mod Shams
 pub mod Practice
 pub mod Written

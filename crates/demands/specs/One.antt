@@ -29,6 +29,7 @@ use Rattle.box_rules.specs.Packets.{Packet, packets, mine}
 use Rattle.box_rules.specs.Numbers.{numbers, count}
 use Rattle.box_rules.specs.Box.{agree, contents, total, boxBytes}
 use Rattle.transform_rules.specs.Call.{isQuantiser, inverseTransform}
+use Rattle.preview_rules.specs.Call.{previewOwes}
 use Rattle.merge_rules.specs.Near.{top}
 use Rattle.merge_rules.specs.declared.Setting.{Setting}
 use Rattle.merge_rules.specs.Settings.{inRanges, plain, srgbAllowed, samples, lengthsRight, entryRight}
@@ -198,14 +199,26 @@ acWriteRows plane blocks codes values room =
     then row 19 (FirstLacking codes (tokens blocks values))
     then row 9 (needed (length (acBytes blocks codes values)) room)
 
+-- N4: 22, "quantiser entry not 1..255", at the "first index"
+abbrev pub badQuantiser : List ℕ → Rows
+badQuantiser quantisers = row 22 (First (length quantisers) (λ i. isQuantiser (getD quantisers i 0)))
+
 -- N9: "Transform: 20, 21, 22, 11, 9"
 unfoldable pub transformRows : ℕ → ℕ → List ℤ → List ℕ → ℕ → Rows
 transformRows refinement blocks values quantisers room =
     row 20 (failing (every (leb refinement 4 ∷ leb blocks 1024 ∷ [])))
     then row 21 (failing (every (eqb (length values) (blocks * 64) ∷ eqb (length quantisers) 64 ∷ [])))
-    then row 22 (First (length quantisers) (λ i. isQuantiser (getD quantisers i 0)))
+    then badQuantiser quantisers
     then row 11 (First (length values) (inside Whole refinement values))
     then row 9 (needed (blocks * 64) room)
+
+-- N16: what a preview owes: 20, 21, 22, 9
+unfoldable pub previewRows : ℕ → List ℕ → ℕ → Rows
+previewRows left quantisers room =
+    row 20 (failing (leb left 4))
+    then row 21 (failing (eqb (length quantisers) 64))
+    then badQuantiser quantisers
+    then row 9 (needed 64 room)
 
 -- N10: "Merge: 20, 21, 11, 9"
 unfoldable pub mergeRows : Setting → ℕ → List ℤ → List ℤ → List ℕ → ℕ → Rows
@@ -254,6 +267,9 @@ pub record DemandOne : Type 0 where
   pub transforms : (refinement blocks : ℕ) (values : List ℤ) (quantisers : List ℕ) (before after : List ℤ) (answer : Answer)
       → Meets (pos 0) (inverseTransform refinement blocks values quantisers (length before)) before after answer
       → Answered (pos 0) (transformRows refinement blocks values quantisers (length before)) before after answer
+  pub previews : (left : ℕ) (quantisers before after : List ℕ) (answer : Answer)
+      → Meets 0 (previewOwes left quantisers (length before)) before after answer
+      → Answered 0 (previewRows left quantisers (length before)) before after answer
   pub merges : (s : Setting) (pixels : ℕ) (base residual : List ℤ) (table : List ℕ) (before after : List ℕ) (answer : Answer)
       → Meets 0 (merge s pixels base residual table (length before)) before after answer
       → Answered 0 (mergeRows s pixels base residual table (length before)) before after answer

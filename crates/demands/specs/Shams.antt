@@ -11,7 +11,7 @@ use Rattle.answers.specs.declared.Answer.{Answer}
 use Rattle.bit_rules.specs.Table.{Table}
 use Rattle.merge_rules.specs.declared.Setting.{Setting}
 use Rattle.plane_rules.specs.Levels.{climb}
-use Rattle.demands.specs.One.{Rows, stands, Answered, boxRows, listRows, dcReadRows, acReadRows, dcWriteRows, acWriteRows, transformRows, mergeRows}
+use Rattle.demands.specs.One.{Rows, stands, Answered, boxRows, listRows, dcReadRows, acReadRows, dcWriteRows, acWriteRows, transformRows, previewRows, mergeRows}
 use Rattle.demands.specs.Two.{Exactly, DcRefined, Sampled}
 use Rattle.demands.specs.Three.{Both, Provided, readPlane, levelOf, Refined}
 use Rattle.demands.specs.Cases.{whiteboard}
@@ -48,6 +48,7 @@ pub record NumbersAre : Type 0 where
       → Only (20 ∷ 21 ∷ 10 ∷ 11 ∷ 19 ∷ 9 ∷ []) (acWriteRows plane blocks codes values room)
   pub transforms : (refinement blocks : ℕ) (values : List ℤ) (quantisers : List ℕ) (room : ℕ)
       → Only (20 ∷ 21 ∷ 22 ∷ 11 ∷ 9 ∷ []) (transformRows refinement blocks values quantisers room)
+  pub previews : (left : ℕ) (quantisers : List ℕ) (room : ℕ) → Only (20 ∷ 21 ∷ 22 ∷ 9 ∷ []) (previewRows left quantisers room)
   pub merges : (s : Setting) (pixels : ℕ) (base residual : List ℤ) (table : List ℕ) (room : ℕ)
       → Only (20 ∷ 21 ∷ 11 ∷ 9 ∷ []) (mergeRows s pixels base residual table room)
 

@@ -31,6 +31,8 @@ use Rattle.transform_rules.specs.Cosines.{kernel}
 use Rattle.transform_rules.specs.Zigzag.{zigzag}
 use Rattle.transform_rules.specs.Picture as blockwise
 use Rattle.transform_rules.specs.Call.{firstBadQuantiser, inverseTransform}
+use Rattle.preview_rules.specs.Owed.{owed, owedBlock}
+use Rattle.preview_rules.specs.Call.{previewOwes}
 use Rattle.merge_rules.specs.Near.{top}
 use Rattle.merge_rules.specs.declared.Setting.{Setting}
 use Rattle.merge_rules.specs.Pixels.{component}
@@ -103,6 +105,14 @@ pub record Sampled (refinement blocks : ℕ) (values : List ℤ) (quantisers : L
   pub samples : ys ≡ blockwise.picture refinement blocks values quantisers
   pub fits : length ys ≤ room
 
+-- D2, V4: what a preview owes, where nothing is to be refused
+pub record Owing (left : ℕ) (quantisers : List ℕ) (room : ℕ) (ys : List ℕ) : Type 0 where
+  pub counts : leb left 4 ≡ true
+  pub long : length quantisers ≡ 64
+  pub quantised : firstBadQuantiser quantisers ≡ Nothing
+  pub numbers : ys ≡ owedBlock left quantisers
+  pub fits : length ys ≤ room
+
 -- ---- merged results
 
 -- D2: the merged picture, where nothing is to be refused
@@ -144,6 +154,8 @@ pub record DemandTwo : Type 0 where
   pub transforms : (refinement blocks : ℕ) (values : List ℤ) (quantisers : List ℕ) (before after : List ℤ) (answer : Answer)
       → Meets (pos 0) (inverseTransform refinement blocks values quantisers (length before)) before after answer
       → Exactly (Sampled refinement blocks values quantisers (length before)) after answer
+  pub previews : (left : ℕ) (quantisers before after : List ℕ) (answer : Answer)
+      → Meets 0 (previewOwes left quantisers (length before)) before after answer → Exactly (Owing left quantisers (length before)) after answer
   pub merges : (s : Setting) (pixels : ℕ) (base residual : List ℤ) (table : List ℕ) (before after : List ℕ) (answer : Answer)
       → Meets 0 (merge s pixels base residual table (length before)) before after answer
       → Exactly (Merged s pixels base residual table (length before)) after answer
@@ -190,6 +202,12 @@ abbrev pub SamplesAre : Type 0
 SamplesAre =
     (refinement blocks : ℕ) (values : List ℤ) (quantisers : List ℕ) (room : ℕ) (ys : List ℤ) → Sampled refinement blocks values quantisers room ys
     → (block y x : ℕ) → block < blocks → y < 8 → x < 8 → getD ys (block * 64 + (y * 8 + x)) (pos 0) ≡ sampleAt refinement values quantisers block y x
+
+-- V3: what is owed at row y, column x
+abbrev pub OwedAre : Type 0
+OwedAre =
+    (left : ℕ) (quantisers : List ℕ) (room : ℕ) (ys : List ℕ) → Owing left quantisers room ys
+    → (y x : ℕ) → y < 8 → x < 8 → getD ys (y * 8 + x) 0 ≡ owed left quantisers y x
 
 -- M4: the five steps for each pixel; "component planes follow one another"
 abbrev pub ResultsAre : Type 0
