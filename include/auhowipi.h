@@ -110,6 +110,13 @@ uint32_t xt_inverse_transform(uint32_t refinement, size_t blocks, const int32_t 
                               const uint16_t *quantisers, size_t quantisers_len, int32_t *destination,
                               size_t destination_len, uint64_t *place);
 
+/* ---- what a preview owes: 64 numbers, row by row. Each says how far the transform's sample at this place of a block, times
+ * 2^left, can be from the full picture's, where `left` planes, 0 to 4, are not yet read, whatever those planes hold. The
+ * quantisers are the transform's. Refused in this order: `left` above 4 (XT_SETTING); other than 64 quantisers (XT_LENGTH);
+ * one that is not 1 to 255 (XT_QUANTISER); room for fewer than 64 numbers (XT_SHORT). */
+uint32_t xt_preview_owes(uint32_t left, const uint16_t *quantisers, size_t quantisers_len, uint32_t *destination,
+                         size_t destination_len, uint64_t *place);
+
 /* ---- the merge to 9 to 16 bits. Component planes follow one another. What is not used is empty.
  * C5: base_transform, residual_transform: 0 identity, 1 the transform. curve: 0 straight, 1 the lent table, 2 inverse sRGB.
  * matrix_on, residual_on: 0 absent, 1 present.

@@ -39,7 +39,7 @@ def call(name, *parts):
     return number, place.value, list(arrays[-1])
 
 
-U8, U16, I16, I32 = ctypes.c_uint8, ctypes.c_uint16, ctypes.c_int16, ctypes.c_int32
+U8, U16, U32, I16, I32 = ctypes.c_uint8, ctypes.c_uint16, ctypes.c_uint32, ctypes.c_int16, ctypes.c_int32
 u32, size = ctypes.c_uint32, ctypes.c_size_t
 
 
@@ -63,6 +63,11 @@ def read_ac(plane, blocks, counts, codes, data, values):
 
 def transform(refinement, blocks, values, quantisers):
     return call('xt_inverse_transform', u32(refinement), size(blocks), (I32, values), (U16, quantisers), (I32, [0] * (64 * blocks)))
+
+
+def preview_owes(left, quantisers):
+    """How far a preview can be from the full picture at each place of a block, row by row, with so many planes left."""
+    return call('xt_preview_owes', u32(left), (U16, quantisers), (U32, [0] * 64))
 
 
 def merge(rb, rh, rr, components, base, table, residual):

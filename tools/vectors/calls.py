@@ -1,7 +1,8 @@
 #!/usr/bin/env python3
-"""Cases for the calls for C: those of merge.py and some more, with the matrix as a lent list, and transforms by transform.py's own rule.
+"""Cases for the calls for C: those of merge.py and some more, with the matrix as a lent list, transforms by transform.py's own rule, and what previews owe, by the search of previews.py.
 
-  calls.py CASES LINES     writes the cases (the number of merges, each: fifteen numbers and four lists; the number of transforms, each: five numbers and two lists)
+  calls.py CASES LINES     writes the cases (the number of merges, each: fifteen numbers and four lists; the number of transforms, each: five numbers and two lists;
+                           the number of previews, each: three numbers and a list)
                            and the lines that are expected: number, place, the whole destination (a transform's samples with 2^31 added)
 
 crates/c_vectors reads the cases on standard input and must write the lines:
@@ -9,6 +10,7 @@ crates/c_vectors reads the cases on standard input and must write the lines:
 """
 import sys
 import merge
+import previews
 import transform
 from fields import numbers, raw_sizes, raw_values
 
@@ -95,13 +97,14 @@ def line(case):
 
 
 def main():
-    first, second = list(merges()), list(transforms())
-    data = numbers(len(first)) + b''.join(c.packed() for c in first) + numbers(len(second)) + b''.join(packed(c) for c in second)
+    first, second, third = list(merges()), list(transforms()), previews.cases()
+    kinds = [[c.packed() for c in first], [packed(c) for c in second], [previews.packed(c) for c in third]]
+    data = b''.join(numbers(len(cases)) + b''.join(cases) for cases in kinds)
     with open(sys.argv[1], 'wb') as f:
         f.write(data)
     with open(sys.argv[2], 'w') as f:
-        f.write(''.join(l + ' \n' for l in [c.line() for c in first] + [line(c) for c in second]))
-    print(len(first), 'merges,', len(second), 'transforms,', len(data), 'bytes')
+        f.write(''.join(l + ' \n' for l in [c.line() for c in first] + [line(c) for c in second] + [previews.line(c) for c in third]))
+    print(len(first), 'merges,', len(second), 'transforms,', len(third), f'previews ({previews.told()}),', len(data), 'bytes')
 
 
 if __name__ == '__main__':

@@ -56,17 +56,28 @@ def real(s, x, y, r):
         for v in range(8) for u in range(8)) + 2 ** (7 + r)
 
 
-def samples(r, values, quantisers):
-    """The rules T6 to T9 for one block, and a look at T.81's own formula beside it."""
+def dequantised(values, quantisers):
+    """T6: the products of one block by row v and column u."""
     s = [[0] * 8 for _ in range(8)]
     for i, (v, u) in enumerate(WALK):
         s[v][u] = values[i] * quantisers[i]
+    return s
+
+
+def sample(r, s, y, x):
+    """T7 to T9: the sample of row y, column x."""
+    total = sum(K[x][u] * K[y][v] * s[v][u] for v in range(8) for u in range(8))
+    return (total + 2 ** 27) // 2 ** 28 + 2 ** (7 + r)
+
+
+def samples(r, values, quantisers):
+    """The rules T6 to T9 for one block, and a look at T.81's own formula beside it."""
+    s = dequantised(values, quantisers)
     size = sum(abs(e) for row in s for e in row)
     out = []
     for y in range(8):
         for x in range(8):
-            total = sum(K[x][u] * K[y][v] * s[v][u] for v in range(8) for u in range(8))
-            out.append((total + 2 ** 27) // 2 ** 28 + 2 ** (7 + r))
+            out.append(sample(r, s, y, x))
             assert abs(out[-1] - real(s, x, y, r)) < 0.51 + size / 2 ** 14
     return out
 

@@ -63,6 +63,7 @@ mod c {
         pub fn xt_read_ac_plane(plane: u32, blocks: usize, counts: *const u8, counts_len: usize, codes: *const u8, codes_len: usize, data: *const u8, data_len: usize, values: *const i32, values_len: usize, destination: *mut i32, destination_len: usize, place: *mut u64) -> u32;
         pub fn xt_write_ac_plane(plane: u32, blocks: usize, counts: *const u8, counts_len: usize, codes: *const u8, codes_len: usize, values: *const i32, values_len: usize, destination: *mut u8, destination_len: usize, place: *mut u64) -> u32;
         pub fn xt_inverse_transform(refinement: u32, blocks: usize, values: *const i32, values_len: usize, quantisers: *const u16, quantisers_len: usize, destination: *mut i32, destination_len: usize, place: *mut u64) -> u32;
+        pub fn xt_preview_owes(left: u32, quantisers: *const u16, quantisers_len: usize, destination: *mut u32, destination_len: usize, place: *mut u64) -> u32;
         pub fn xt_merge(
             rb: u32, rh: u32, rr: u32, components: u32, pixels: usize, base_transform: u32, curve: u32, matrix_on: u32, residual_on: u32, residual_transform: u32,
             base: *const i32, base_len: usize, residual: *const i32, residual_len: usize, table: *const u16, table_len: usize, matrix: *const i16, matrix_len: usize,
@@ -149,6 +150,14 @@ pub fn inverse_transform(refinement: u32, blocks: usize, values: &[i32], quantis
     let mut place = 0;
     // SAFETY: as in `box_bytes`.
     let number = unsafe { c::xt_inverse_transform(refinement, blocks, values.as_ptr(), values.len(), quantisers.as_ptr(), quantisers.len(), destination.as_mut_ptr(), destination.len(), &mut place) };
+    done(number, place)
+}
+
+/// What a preview owes: how far the transform's sample at each place of a block, times 2^left, can be from the full picture's, with `left` planes (0 to 4) not yet read. 64 numbers, row by row.
+pub fn preview_owes(left: u32, quantisers: &[u16], destination: &mut [u32]) -> Result<usize, Error> {
+    let mut place = 0;
+    // SAFETY: as in `box_bytes`.
+    let number = unsafe { c::xt_preview_owes(left, quantisers.as_ptr(), quantisers.len(), destination.as_mut_ptr(), destination.len(), &mut place) };
     done(number, place)
 }
 

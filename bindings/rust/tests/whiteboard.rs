@@ -1,4 +1,4 @@
-//! The whiteboard's readings (docs/RULES.md, S1 to S5, S7 and S8), practice beside live (S10) and grey (S11) through the Rust calls, and a round trip.
+//! The whiteboard's readings (docs/RULES.md, S1 to S5, S7 and S8), practice beside live (S10) and grey (S11) through the Rust calls, what a preview owes, and a round trip.
 use auhowipi::*;
 
 const LPTS: [u8; 4] = *b"LPTS";
@@ -107,6 +107,25 @@ fn samples() {
         let mut out = [0i32; 64];
         assert_eq!(inverse_transform(0, 1, &values, &[1; 64], &mut out), Ok(64));
         assert_eq!(out, [sample; 64]);
+    }
+}
+
+#[test]
+fn what_a_preview_owes() {
+    let ones = [1u16; 64];
+    for (left, owed) in [(0, 0), (1, 8), (2, 23), (3, 53), (4, 113)] {
+        let mut out = [7u32; 66];
+        assert_eq!(preview_owes(left, &ones, &mut out), Ok(64));
+        assert_eq!(out[..64], [owed; 64]);
+        assert_eq!(out[64..], [7, 7]);
+    }
+    let mut bad = ones;
+    bad[8] = 256;
+    bad[20] = 0;
+    for (left, quantisers, room, refusal) in [(5, &ones[..], 66, (20, 0)), (4, &ones[..63], 66, (21, 0)), (4, &bad[..], 66, (22, 8)), (4, &ones[..], 63, (9, 64))] {
+        let mut out = [7u32; 66];
+        assert_eq!(refused(preview_owes(left, quantisers, &mut out[..room])), refusal);
+        assert!(out[..room].iter().all(|&n| n == 0) && out[room..].iter().all(|&n| n == 7));
     }
 }
 

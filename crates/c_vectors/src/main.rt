@@ -1,5 +1,5 @@
 // Runs the cases of tools/vectors/calls.py through the calls for C themselves, and writes number, place and the whole destination, a case a line:
-// the merge in all its modes, then transforms.
+// the merge in all its modes, then transforms, then what previews owe.
 ghost use Prim.Native.Nat.{_<_, _≤_};
 
 // Number i of a case.
@@ -76,6 +76,17 @@ fn write_values(number: u32, place: u64, destination: &[i32]) {
     let mut i = 0;
     while i < destination.len() {
         write_number(lifted(destination[i]));
+        i += 1;
+    }
+    io::write_all(1, b"\n");
+}
+
+fn write_numbers(number: u32, place: u64, destination: &[u32]) {
+    write_number(number as u64);
+    write_number(place);
+    let mut i = 0;
+    while i < destination.len() {
+        write_number(destination[i] as u64);
         i += 1;
     }
     io::write_all(1, b"\n");
@@ -202,6 +213,26 @@ fn run_transform(bytes: &[u8], at: usize) -> usize {
     )
 }
 
+// What the preview of a case owes, the same way.
+fn owed(bytes: &[u8], at: usize, quantisers: &mut [u16], destination: &mut [u32]) -> usize {
+    let end = bytes.len();
+    let first = records::past(end, at, 12);
+    let next = records::past(end, first, 2 * quantisers.len());
+    records::sizes_at(bytes, first, quantisers);
+    let mut place = 99u64;
+    let r = reader_c::xt_preview_owes(set(bytes, at, 0), quantisers, destination, &mut place);
+    write_numbers(r, place, destination);
+    next
+}
+
+fn run_preview(bytes: &[u8], at: usize) -> usize {
+    let nq = count(bytes, at, 1, 65);
+    let nd = count(bytes, at, 2, 70);
+    let mut quantisers = [0u16; 65];
+    let mut destination = [305419896u32; 70];
+    owed(bytes, at, &mut quantisers[0..nq], &mut destination[0..nd])
+}
+
 // As many merges as the first number says, and where the number of transforms stands.
 fn run_merges(bytes: &[u8]) -> usize {
     let cases = records::number_at(bytes, 0);
@@ -214,12 +245,24 @@ fn run_merges(bytes: &[u8]) -> usize {
     at
 }
 
-fn run_transforms(bytes: &[u8], start: usize) {
+// As many transforms as the number there says, and where the number of previews stands.
+fn run_transforms(bytes: &[u8], start: usize) -> usize {
     let cases = records::number_at(bytes, start);
     let mut at = records::past(bytes.len(), start, 4);
     let mut i = 0;
     while i < cases {
         at = run_transform(bytes, at);
+        i += 1;
+    }
+    at
+}
+
+fn run_previews(bytes: &[u8], start: usize) {
+    let cases = records::number_at(bytes, start);
+    let mut at = records::past(bytes.len(), start, 4);
+    let mut i = 0;
+    while i < cases {
+        at = run_preview(bytes, at);
         i += 1;
     }
 }
@@ -232,6 +275,7 @@ fn file_room() -> [u8; 262144] {
 fn main() {
     let mut file = file_room();
     let n = io::read_full(0, &mut file);
-    let at = run_merges(&file[..n]);
-    run_transforms(&file[..n], at);
+    let transforms = run_merges(&file[..n]);
+    let previews = run_transforms(&file[..n], transforms);
+    run_previews(&file[..n], previews);
 }

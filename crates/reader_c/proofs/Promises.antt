@@ -25,6 +25,8 @@ use Rattle.plane_rules.specs.AcWrite.{writeAc}
 use Rattle.transform_rules.specs.Samples.{blockSamples}
 use Rattle.transform_rules.specs.Picture.{picture}
 use Rattle.transform_rules.specs.Call.{isQuantiser, firstBadQuantiser, inverseTransform}
+use Rattle.preview_rules.specs.Owed.{owedBlock}
+use Rattle.preview_rules.specs.Call.{previewOwes}
 use Rattle.merge_rules.specs.Curves.{entries}
 use Rattle.merge_rules.specs.Settings.{inRanges, plain, srgbAllowed, residualCount, lengthsRight, entryRight}
 use Rattle.merge_rules.specs.Picture.{merge, mergeTests}
@@ -44,6 +46,9 @@ use Rattle.reader_c.proofs.xt_write_dc_plane.Reads as writedc-reads
 use Rattle.reader_c.proofs.xt_inverse_transform as transform-call
 use Rattle.reader_c.proofs.xt_inverse_transform.Kinds as transform-kinds
 use Rattle.reader_c.proofs.xt_inverse_transform.Reads as transform-reads
+use Rattle.reader_c.proofs.xt_preview_owes as preview-call
+use Rattle.reader_c.proofs.xt_preview_owes.Kinds as preview-kinds
+use Rattle.reader_c.proofs.xt_preview_owes.Reads as preview-reads
 use Rattle.reader_c.proofs.xt_read_ac_plane as readac-call
 use Rattle.reader_c.proofs.xt_read_ac_plane.Kinds as readac-kinds
 use Rattle.reader_c.proofs.xt_read_ac_plane.Reads as readac-reads
@@ -146,6 +151,20 @@ module _ (κs : Lfts 4) (a : ArgsD transform-call.signature κs) (r : ResD trans
       → Refuses (pos 0) 9 64 (now (a .1 .1 .1 .1 .0)) (now (s .1 .1 .1 .1 .0)) r (now (s .1 .1 .1 .1 .1 .0))
   unfolding inverseTransform firstBadQuantiser isQuantiser picture blockSamples tab joinTo every firstFail orHere inLevel isDc inside firstOutside
   transform-refuses e0 e1 e2 e3 e4 = refuses transform-meets (rw (e0, e1, e2, e3, e4))
+
+-- xt_preview_owes
+module _ (κs : Lfts 3) (a : ArgsD preview-call.signature κs) (r : ResD preview-call.signature κs) (s : AtExit (endedOf 3 preview-kinds.ps preview-kinds.r) κs) (promise : preview-reads.Learnt κs a r s) where
+  pub preview-meets : Meets 0 (previewOwes (a .0) (now (a .1 .0)) (length (now (a .1 .1 .0))))
+      (now (a .1 .1 .0)) (now (s .1 .1 .0)) (record { number = r; place = now (s .1 .1 .1 .0) })
+  preview-meets = promise
+
+  -- four planes left, quantisers 255 and no room: 9, place 64
+  pub preview-refuses : (a .0 ≡ 4)
+      → (now (a .1 .0) ≡ replicate 64 255)
+      → (now (a .1 .1 .0) ≡ [])
+      → Refuses 0 9 64 (now (a .1 .1 .0)) (now (s .1 .1 .0)) r (now (s .1 .1 .1 .0))
+  unfolding previewOwes firstBadQuantiser isQuantiser owedBlock tab every firstFail orHere
+  preview-refuses e0 e1 e2 = refuses preview-meets (rw (e0, e1, e2))
 
 -- xt_read_ac_plane
 module _ (κs : Lfts 6) (a : ArgsD readac-call.signature κs) (r : ResD readac-call.signature κs) (s : AtExit (endedOf 6 readac-kinds.ps readac-kinds.r) κs) (promise : readac-reads.Learnt κs a r s) where

@@ -12,6 +12,7 @@ ghost use Rattle.plane_rules.specs.AcWrite.{writeAc};
 ghost use Rattle.box_rules.specs.Text.{listPackets};
 ghost use Rattle.merge_rules.specs.Call.{known, settingOf, mergeCall};
 ghost use Rattle.transform_rules.specs.Call.{inverseTransform};
+ghost use Rattle.preview_rules.specs.Call.{previewOwes};
 
 // C1, C3, C4: one box, assembled from its packets; the type's first byte is the highest of its number.
 #[no_mangle]
@@ -90,6 +91,21 @@ pub extern "C" fn xt_inverse_transform(
         (now (destination .entry)) (now (destination .exit)) (record { number = r; place = now (place .exit) }) ⌝ }
 {
     let a = transform::inverse_transform(refinement, blocks, values, quantisers, destination);
+    *place = a.place as u64;
+    a.number
+}
+
+// C1, C4: how far a preview can be from the full picture at each place of a block, in samples, with so many planes left.
+#[no_mangle]
+pub extern "C" fn xt_preview_owes(
+    left: u32,
+    quantisers: &[u16],
+    destination: &mut [u32],
+    place: &mut u64,
+) -> u32
+    ensures { λ r. ⌜ Meets 0 (previewOwes left (now (quantisers .entry)) (length (now (destination .entry)))) (now (destination .entry)) (now (destination .exit)) (record { number = r; place = now (place .exit) }) ⌝ }
+{
+    let a = previews::preview_owes(left, quantisers, destination);
     *place = a.place as u64;
     a.number
 }

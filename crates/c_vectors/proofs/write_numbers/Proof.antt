@@ -1,0 +1,36 @@
+-- `c_vectors::write_numbers` is safe and ends. Assumes nothing.
+use borrow.Author.Needs.{needs}
+use Prim.Native.Nat.{_-_, _≤_}
+use native.Mathlib.Omega.{arith}
+use lib.ListN.{length}
+use Rattle.c_vectors.proofs.write_numbers.Statement.{statement}
+use Rattle.c_vectors.proofs.write_numbers.Tie as tie
+
+abbrev Inv-loop : tie.InvT-loop
+Inv-loop number place destination i₀ t5 i = i ≤ length destination
+
+abbrev μ-loop : tie.MeasureT-loop
+μ-loop number place destination i₀ t5 i = length destination - i
+
+cast-write-number : tie.Need-cast-write-number Inv-loop μ-loop
+cast-write-number c = omega (arith, c .shared-slice-known2 .given (c .before .before .loop .i))
+
+pub write-numbers-spec : {M : Type 1} → statement M
+write-numbers-spec =
+    tie.close
+    (tie.spec
+    Inv-loop
+    μ-loop
+    (λ c κs. search needs)
+    (λ c κs. search needs)
+    (λ c. search needs)
+    (λ c. search needs)
+    (λ c. search needs)
+    cast-write-number
+    (λ c κs. search needs)
+    (λ c. search needs)
+    (λ c. search needs)
+    (λ c. search needs)
+    (λ c. search needs)
+    (λ c κs. search needs)
+    (λ c. search needs))
