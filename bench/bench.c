@@ -21,7 +21,8 @@ enum { BLOCKS = 1024, PIXELS = 65536, FILES = 4 << 20 };
 static uint8_t data[1 << 20], other[1 << 20], file[FILES], counts[16], codes[32];
 static uint8_t box1[FILES], box2[FILES];
 static int32_t full[64 * BLOCKS], old[64 * BLOCKS], out1[3 * PIXELS], out2[3 * PIXELS], base[3 * PIXELS], residual[3 * PIXELS];
-static uint16_t quantisers[64], merged1[3 * PIXELS], merged2[3 * PIXELS];
+static uint16_t quantisers[64], tables[64 * BLOCKS], merged1[3 * PIXELS], merged2[3 * PIXELS];
+static uint32_t owed1[64 * BLOCKS], owed2[64 * BLOCKS];
 static uint64_t place1, place2;
 static size_t file_len;
 static int bad;
@@ -89,6 +90,15 @@ static uint8_t halfway[1 << 20];
 static const uint8_t *coded_for(size_t n) { return n == BLOCKS ? data : halfway; }
 static uint32_t r_ac(size_t n, uint64_t *p) { return xt_read_ac_plane(4, n, counts, 16, codes, 32, coded_for(n), length_for(n), old, 63 * n, out1, 63 * n, p); }
 static uint32_t it(size_t n, uint64_t *p) { return xt_inverse_transform(4, n, full, 64 * n, quantisers, 64, out1, 64 * n, p); }
+/* a call has no size: n of them, each with a table of its own, 0 to 4 planes left in turn */
+typedef uint32_t (*owes)(uint32_t, const uint16_t *, size_t, uint32_t *, size_t, uint64_t *);
+static uint32_t owed_by(owes f, uint32_t *owed, size_t n, uint64_t *p)
+{
+    uint32_t number = 0;
+    for (size_t i = 0; i < n; i++) number |= f((uint32_t)(i % 5), tables + 64 * i, 64, owed + 64 * i, 64, p);
+    return number;
+}
+static uint32_t po(size_t n, uint64_t *p) { return owed_by(xt_preview_owes, owed1, n, p); }
 static uint32_t mg(size_t n, uint64_t *p) { return xt_merge(8, 4, 4, 3, n, 1, 0, 0, 1, 1, base, 3 * n, residual, 3 * n, quantisers, 0, (const int16_t *)quantisers, 0, merged1, 3 * n, p); }
 static uint32_t mg1(size_t n, uint64_t *p) { return xt_merge(8, 0, 0, 1, n, 0, 0, 0, 0, 0, base, n, residual, 0, quantisers, 0, (const int16_t *)quantisers, 0, merged1, n, p); }
 
@@ -105,6 +115,7 @@ static uint32_t ls(size_t n, uint64_t *p) { made_for(n); return xt_list_packets(
     static uint32_t by##_w_ac(size_t n, uint64_t *p) { return by##_write_ac(4, n, counts, 16, codes, 32, full, 63 * n, other, sizeof other, p); } \
     static uint32_t by##_r_ac(size_t n, uint64_t *p) { return by##_read_ac(4, n, counts, 16, codes, 32, coded_for(n), length_for(n), old, 63 * n, out2, 63 * n, p); } \
     static uint32_t by##_it(size_t n, uint64_t *p) { return by##_inverse_transform(4, n, full, 64 * n, quantisers, 64, out2, 64 * n, p); } \
+    static uint32_t by##_po(size_t n, uint64_t *p) { return owed_by(by##_preview_owes, owed2, n, p); } \
     static uint32_t by##_mg(size_t n, uint64_t *p) { return by##_merge(8, 4, 4, 3, n, 1, 1, base, 3 * n, residual, 3 * n, merged2, 3 * n, p); } \
     static uint32_t by##_mg1(size_t n, uint64_t *p) { return by##_merge(8, 0, 0, 1, n, 0, 0, base, n, residual, 0, merged2, n, p); } \
     static uint32_t by##_bx(size_t n, uint64_t *p) { made_for(n); return by##_box_bytes(file, file_len, 0x46494E45, 1, box2, sizeof box2, p); } \
@@ -192,6 +203,8 @@ int main(void)
     { uint64_t p; xt_write_ac_plane(4, BLOCKS / 2, counts, 16, codes, 32, full, 63 * BLOCKS / 2, halfway, sizeof halfway, &p); w_ac(BLOCKS, &p); }
     compare("xt_read_ac_plane, 1,024 blocks", "values", 63 * BLOCKS, BLOCKS, r_ac, BOTH(r_ac), out1, out2, 4 * 63 * BLOCKS);
     compare("xt_inverse_transform, 1,024 blocks", "values", 64 * BLOCKS, BLOCKS, it, BOTH(it), out1, out2, 4 * 64 * BLOCKS);
+    for (size_t i = 0; i < 64 * BLOCKS; i++) tables[i] = (uint16_t)(1 + i * i % 251);
+    compare("xt_preview_owes, 1,024 tables", "numbers", 64 * BLOCKS, BLOCKS, po, BOTH(po), owed1, owed2, sizeof owed1);
     merges("xt_merge, 3 components, both transforms, random samples", "xt_merge, 1 component, straight curve, random samples", 0);
     merges("the same, 3 components, steady samples", "the same, 1 component, steady samples", 1);
     boxes_of(60000, 0, "xt_box_bytes, packets of 60,000 bytes in order", 3000000);

@@ -322,6 +322,41 @@ uint32_t PLAIN(inverse_transform)(uint32_t r, size_t blocks, const int32_t *valu
     return 0;
 }
 
+/* ---- what a preview owes: the sums of |K(x,u) K(y,v)| q, by rows first */
+
+static const uint16_t magnitudes[8][8] = {
+    {5793, 8035, 7568, 6811, 5793, 4551, 3135, 1598}, {5793, 6811, 3135, 1598, 5793, 8035, 7568, 4551},
+    {5793, 4551, 3135, 8035, 5793, 1598, 7568, 6811}, {5793, 1598, 7568, 4551, 5793, 6811, 3135, 8035},
+    {5793, 1598, 7568, 4551, 5793, 6811, 3135, 8035}, {5793, 4551, 3135, 8035, 5793, 1598, 7568, 6811},
+    {5793, 6811, 3135, 1598, 5793, 8035, 7568, 4551}, {5793, 8035, 7568, 6811, 5793, 4551, 3135, 1598}};
+
+uint32_t PLAIN(preview_owes)(uint32_t left, const uint16_t *q, size_t nq, uint32_t *out, size_t room, uint64_t *place)
+{
+    size_t bytes = room * sizeof *out;
+    if (left > 4) return refused(20, 0, out, bytes, place);
+    if (nq != 64) return refused(21, 0, out, bytes, place);
+    for (size_t i = 0; i < 64; i++)
+        if (q[i] < 1 || q[i] > 255) return refused(22, i, out, bytes, place);
+    if (room < 64) return refused(9, 64, out, bytes, place);
+    uint32_t table[8][8], rows[8][8];
+    for (int i = 0; i < 64; i++) table[natural[i] / 8][natural[i] % 8] = q[i];
+    for (int v = 0; v < 8; v++)
+        for (int x = 0; x < 8; x++) {
+            uint32_t sum = 0;
+            for (int u = 0; u < 8; u++) sum += magnitudes[x][u] * table[v][u];
+            rows[v][x] = sum;
+        }
+    uint64_t d = 1u << left;
+    for (int y = 0; y < 8; y++)
+        for (int x = 0; x < 8; x++) {
+            uint64_t weight = 0;
+            for (int v = 0; v < 8; v++) weight += (uint64_t)magnitudes[y][v] * rows[v][x];
+            out[8 * y + x] = (uint32_t)((2 * (d - 1) * weight + ((d + 1) << 28) - 1) >> 29);
+        }
+    *place = 64;
+    return 0;
+}
+
 /* ---- boxes: the packets of one type and instance, sorted by number */
 
 typedef struct { uint32_t number, lbox; const uint8_t *payload; size_t len; } packet;

@@ -11,4 +11,5 @@ uint32_t PLAIN(write_dc)(uint32_t, size_t, const int32_t *, size_t, uint8_t *, s
 uint32_t PLAIN(read_ac)(uint32_t, size_t, const uint8_t *, size_t, const uint8_t *, size_t, const uint8_t *, size_t, const int32_t *, size_t, int32_t *, size_t, uint64_t *);
 uint32_t PLAIN(write_ac)(uint32_t, size_t, const uint8_t *, size_t, const uint8_t *, size_t, const int32_t *, size_t, uint8_t *, size_t, uint64_t *);
 uint32_t PLAIN(inverse_transform)(uint32_t, size_t, const int32_t *, size_t, const uint16_t *, size_t, int32_t *, size_t, uint64_t *);
+uint32_t PLAIN(preview_owes)(uint32_t, const uint16_t *, size_t, uint32_t *, size_t, uint64_t *);
 uint32_t PLAIN(merge)(uint32_t, uint32_t, uint32_t, uint32_t, size_t, int, int, const int32_t *, size_t, const int32_t *, size_t, uint16_t *, size_t, uint64_t *);
