@@ -4,6 +4,7 @@ the reference decoder (`jpeg` of Debian's libjpeg-tools) where that is there, an
 PICTURE.base, or come from libjpeg (tools/vectors/coefficients.c: gcc and libjpeg62-turbo-dev). Needs the library first (library.py)."""
 import os, shutil, subprocess, sys, tempfile
 sys.path.insert(0, os.path.dirname(os.path.abspath(__file__)))
+from images import write_pnm
 from library import *
 
 TMP = tempfile.mkdtemp()
@@ -122,33 +123,47 @@ def decoder_merge(rb, rh, rr, base, table, residual):
     return out
 
 
-def samples_of(name, path, codestream, fines, say):
-    """Width, height, how many planes there are, and the samples row by row of a codestream's components and their refinement boxes: ours, and the decoder's in sixteenths."""
+def levels_of(name, path, codestream, fines, say):
+    """Width, height, and for each component of a codestream its quantisers and its blocks after 0, 1, .. of the planes that its refinement boxes hold."""
     width, height, components = base_of(path, codestream)
     scans = [scan_of(fine) for fine in fines]
     planes, n = sum(is_dc for _, is_dc, *_ in scans), len(components[0][2])
-    # a DC scan has a bit of each component's block in turn, an AC scan is of one component
-    dc = [block[0] for blocks in zip(*(blocks for _, _, blocks in components)) for block in blocks]
-    ac = {number: [v for block in blocks for v in block[1:]] for number, _, blocks in components}
+    # a DC scan has a bit of each component's block in turn, an AC scan is of one component; a plane's values stand behind those of the planes before
+    dc = [[block[0] for blocks in zip(*(blocks for _, _, blocks in components)) for block in blocks]]
+    ac = {number: [[v for block in blocks for v in block[1:]]] for number, _, blocks in components}
     for numbers, is_dc, low, table, data in scans:
-        plane = planes - low
-        answer = read_dc(plane, len(dc), data, dc) if is_dc else read_ac(plane, n, *table, data, ac[numbers[0]])
+        plane, values = planes - low, dc if is_dc else ac[numbers[0]]
+        answer = read_dc(plane, len(dc[0]), data, values[-1]) if is_dc else read_ac(plane, n, *table, data, values[-1])
         if answer[0]:
             refuse(f'{name}, plane {plane}', answer)
-        if is_dc:
-            dc = answer[2]
-        else:
-            ac[numbers[0]] = answer[2]
+        values.append(answer[2])
         say(f'{name}, plane {plane} {"DC" if is_dc else "AC"}: {len(data)} bytes, {answer[1]} values')
-    across, ours, theirs = (width + 7) // 8, [], []
-    rows = lambda samples: [samples[64 * ((y // 8) * across + x // 8) + 8 * (y % 8) + x % 8] for y in range(height) for x in range(width)]
-    for k, (number, quantisers, _) in enumerate(components):
-        blocks = [[dc[len(components) * b + k]] + ac[number][63 * b:63 * b + 63] for b in range(n)]
-        answer = transform(planes, n, [v for b in blocks for v in b], quantisers)
-        if answer[0]:
-            refuse(f'{name}, transform', answer)
-        ours.append(rows(answer[2]))
-        theirs.append(rows(decoder_samples(blocks, quantisers, planes)))
+    if any(len(values) <= planes for values in ac.values()):
+        raise SystemExit(f'{name}: a component lacks an AC plane')
+    blocks = lambda k, number, j: [[dc[j][len(components) * b + k]] + ac[number][j][63 * b:63 * b + 63] for b in range(n)]
+    return width, height, [(quantisers, [blocks(k, number, j) for j in range(planes + 1)]) for k, (number, quantisers, _) in enumerate(components)]
+
+
+def rows(width, height, samples):
+    """The samples of a picture row by row, out of those of its blocks; what pads the blocks at its right and its foot is left out."""
+    across = (width + 7) // 8
+    return [samples[64 * ((y // 8) * across + x // 8) + 8 * (y % 8) + x % 8] for y in range(height) for x in range(width)]
+
+
+def transformed(name, refinement, blocks, quantisers):
+    """The samples of a component, block by block."""
+    answer = transform(refinement, len(blocks), [v for block in blocks for v in block], quantisers)
+    if answer[0]:
+        refuse(f'{name}, transform', answer)
+    return answer[2]
+
+
+def samples_of(name, path, codestream, fines, say):
+    """Width, height, how many planes there are, and the samples row by row of a codestream's components and their refinement boxes: ours, and the decoder's in sixteenths."""
+    width, height, components = levels_of(name, path, codestream, fines, say)
+    planes = len(components[0][1]) - 1
+    ours = [rows(width, height, transformed(name, planes, levels[-1], quantisers)) for quantisers, levels in components]
+    theirs = [rows(width, height, decoder_samples(levels[-1], quantisers, planes)) for quantisers, levels in components]
     return width, height, planes, ours, theirs
 
 
@@ -156,8 +171,17 @@ def pixel_by_pixel(planes):
     return [v for pixel in zip(*planes) for v in pixel]
 
 
+def merged(rb, rh, rr, base, table, residual):
+    """How many samples were merged, and the component planes of them."""
+    answer = merge(rb, rh, rr, len(base), sum(base, []), table, sum(residual, []))
+    if answer[0]:
+        refuse('merge', answer)
+    n = len(base[0])
+    return answer[1], [answer[2][n * k:n * k + n] for k in range(len(base))]
+
+
 def read(path, say=print):
-    """Width, height, Rb, components, the samples pixel by pixel, and what the decoder's arithmetic, as rebuilt here, makes of the same values."""
+    """Width, components, the largest possible sample, the samples pixel by pixel, and what the decoder's arithmetic, as rebuilt here, makes of the same values."""
     file = open(path, 'rb').read()
     say(listing(file).rstrip())
     width, height, planes, base, base16 = samples_of('base', path, file, all_boxes(file, b'FINE'), say)
@@ -171,16 +195,15 @@ def read(path, say=print):
             f.write(codestream)
         _, _, rr, residual, residual16 = samples_of('residual', inner, codestream, all_boxes(file, b'RFIN'), say)
     bits = output_bits(file)
-    answer = merge(bits - 8, planes, rr, len(base), sum(base, []), table, sum(residual, []))
-    if answer[0]:
-        refuse('merge', answer)
-    say(f'merged: {answer[1]} samples of {bits} bits, from {min(answer[2])} to {max(answer[2])}')
-    n, as_decoder = width * height, decoder_merge(bits - 8, planes, rr, base16, table, residual16)
-    return width, height, bits - 8, len(base), pixel_by_pixel([answer[2][n * k:n * k + n] for k in range(len(base))]), pixel_by_pixel(as_decoder)
+    count, result = merged(bits - 8, planes, rr, base, table, residual)
+    samples = pixel_by_pixel(result)
+    say(f'merged: {count} samples of {bits} bits, from {min(samples)} to {max(samples)}')
+    as_decoder = decoder_merge(bits - 8, planes, rr, base16, table, residual16)
+    return width, len(base), (1 << bits) - 1, samples, pixel_by_pixel(as_decoder)
 
 
 def reference(path):
-    """What the reference decoder shows, or nothing where it is not there or says no."""
+    """What the reference decoder shows, as write_pnm takes it: width, components, the largest possible sample and the samples pixel by pixel; or nothing where it is not there or says no."""
     if not shutil.which('jpeg'):
         return None
     out = os.path.join(TMP, 'reference.pgm')
@@ -189,20 +212,19 @@ def reference(path):
     said = subprocess.run(['jpeg', path, out], capture_output=True)
     if b'failed' in said.stdout + said.stderr or not os.path.exists(out) or os.path.getsize(out) == 0:
         return None
-    data = open(out, 'rb').read()
-    head = data.split(b'\n', 3)
-    return [int.from_bytes(head[3][i:i + 2], 'big') for i in range(0, len(head[3]), 2)]
+    kind, sides, top, data = open(out, 'rb').read().split(b'\n', 3)
+    return int(sides.split()[0]), 1 if kind == b'P5' else 3, int(top), [int.from_bytes(data[i:i + 2], 'big') for i in range(0, len(data), 2)]
 
 
 def main():
-    width, height, planes, components, samples, as_decoder = read(sys.argv[1])
+    width, components, top, samples, as_decoder = read(sys.argv[1])
     if len(sys.argv) > 2:
-        with open(sys.argv[2], 'wb') as f:
-            f.write(b'P%d\n%d %d\n%d\n' % (5 if components == 1 else 6, width, height, (1 << 8 + planes) - 1) + b''.join(s.to_bytes(2, 'big') for s in samples))
-    theirs = reference(sys.argv[1])
-    if theirs is None:
+        write_pnm(sys.argv[2], width, components, top, samples)
+    shown = reference(sys.argv[1])
+    if shown is None:
         print('the reference decoder is not there (apt-get install libjpeg-tools)')
         return
+    theirs = shown[3]
     far = [abs(a - b) for a, b in zip(samples, theirs)]
     classes = (('the same', 0, 0), ('1 away', 1, 1), ('2 to 8 away', 2, 8), ('more', 9, 1 << 16))
     print('beside the reference decoder: ' + ', '.join(f'{sum(low <= d <= high for d in far)} {name}' for name, low, high in classes) + f'; at most {max(far)}')
