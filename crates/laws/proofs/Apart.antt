@@ -1,5 +1,5 @@
 -- `apart` through products, sums of any length and roundings. Assumes nothing.
-use mathlib.Core.Path.{_≡_, ap, ap₂, _∙_}
+use mathlib.Core.Path.{_≡_, ap, _∙_}
 use Prim.Native.Nat.{ℕ, zero, suc, _+_, _-_, _*_, _<_, _≤_}
 use native.Mathlib.Nat.{le-refl, mul-le-mul-left, mul-le-mul-right, lt-of-mul-lt-mul-left, le-div-iff-mul-le, div-mul-le-self, div-eq-of-lt}
 use native.Mathlib.Omega.{arith}

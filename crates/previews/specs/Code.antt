@@ -21,21 +21,17 @@ magnitudeTable = tab 32 (λ k. magnitude (k / 8) (k % 8))
 unfoldable pub rowTable : List ℕ → List ℕ
 rowTable quantisers = tab 64 (λ p. getD quantisers (zigzagAt p) 0)
 
--- what the row frequency v brings to column x
-unfoldable pub reach : List ℕ → ℕ → ℕ → ℕ
-reach rows x v = totalTo 8 (λ u. magnitude x u * getD rows (v * 8 + u) 0)
+-- row v of the numbers, eight a row, each times |K(x,k)|, added up
+unfoldable pub along : List ℕ → ℕ → ℕ → ℕ
+along numbers x v = totalTo 8 (λ k. magnitude x k * getD numbers (v * 8 + k) 0)
 
--- all of it, row frequency v and column x at 4v + x
+-- what the row frequency v brings to column x, at 8x + v, for x 0 to 3
 unfoldable pub reachTable : List ℕ → List ℕ
-reachTable rows = tab 32 (λ k. reach rows (k % 4) (k / 4))
+reachTable rows = tab 32 (λ p. along rows (p / 8) (p % 8))
 
--- the weight of a place, from such a table
-unfoldable pub weightIn : List ℕ → ℕ → ℕ → ℕ
-weightIn reaches y x = totalTo 8 (λ v. magnitude y v * getD reaches (v * 4 + x) 0)
-
--- what each place of the first quarter owes, from such a table, d being 2^left
+-- what each place of the first quarter owes, from such a table, d being 2^left: the weight of row y, column x goes along what the row frequencies bring to the column
 unfoldable pub quarter : ℕ → List ℕ → List ℕ
-quarter d reaches = tab 16 (λ p. apartRounded d ((d - 1) * weightIn reaches (p / 4) (p % 4)) (2 ^ 28))
+quarter d reaches = tab 16 (λ p. apartRounded d ((d - 1) * along reaches (p / 4) (p % 4)) (2 ^ 28))
 
 -- the row or column of the first four that owes as much: |K(7-x,u)| is |K(x,u)|
 unfoldable pub fold : ℕ → ℕ
@@ -50,12 +46,6 @@ pub record Quantised (quantisers : List ℕ) : Type 0 where
   pub tabled : length quantisers ≡ 64
   pub small : (k : ℕ) → getD quantisers k 0 ≤ 255
 
--- of the same row by row
-pub record Rows (rows : List ℕ) : Type 0 where
-  pub long : length rows ≡ 64
-  pub few : (k : ℕ) → getD rows k 0 ≤ 255
-
--- and of a table of reaches
-pub record Reaches (reaches : List ℕ) : Type 0 where
-  pub long : length reaches ≡ 32
-  pub few : (k : ℕ) → getD reaches k 0 ≤ 16711680
+-- what it asks of numbers that it goes along: no more than a row of quantisers can bring
+pub record Few (numbers : List ℕ) : Type 0 where
+  pub few : (k : ℕ) → getD numbers k 0 ≤ 16711680

@@ -8,7 +8,7 @@ ghost use Rattle.answers.specs.Verdict.{Meets, Tried};
 ghost use Rattle.transform_rules.specs.Zigzag.{zigzagOrder};
 ghost use Rattle.preview_rules.specs.Owed.{owedBlock};
 ghost use Rattle.preview_rules.specs.Call.{previewOwes};
-ghost use Rattle.previews.specs.Code.{magnitude, magnitudeTable, rowTable, reach, reachTable, weightIn, quarter, fold, unfolded, Quantised, Rows, Reaches};
+ghost use Rattle.previews.specs.Code.{magnitude, magnitudeTable, rowTable, along, reachTable, quarter, fold, unfolded, Quantised, Few};
 use answers::Answer;
 use answers::Outcome;
 use laws::Found;
@@ -86,68 +86,43 @@ fn fill_rows(order: &[usize], quantisers: &[u16], rows: &mut [u64])
     }
 }
 
-// |K(x,u)| times the quantiser of row frequency v and column frequency u.
-fn term(table: &[u64], rows: &[u64], x: usize, v: usize, u: usize) -> u64
-    requires { ⌜ (now table ≡ magnitudeTable) × Rows (now rows) ⌝ }
-    requires { ⌜ (x < 4) × ((v < 8) × (u < 8)) ⌝ }
-    ensures { λ r. ⌜ r ≡ magnitude x u * getD (now (rows .entry)) (v * 8 + u) 0 ⌝ }
+// |K(x,k)| times number k of row v.
+fn term(table: &[u64], numbers: &[u64], x: usize, v: usize, k: usize) -> u64
+    requires { ⌜ (now table ≡ magnitudeTable) × Few (now numbers) ⌝ }
+    requires { ⌜ (x < 4) × ((k < 8) × (v * 8 + 8 ≤ length (now numbers))) ⌝ }
+    ensures { λ r. ⌜ r ≡ magnitude x k * getD (now (numbers .entry)) (v * 8 + k) 0 ⌝ }
 {
-    let i = v * 8 + u;
-    magnitude(table, x, u) * rows[i]
+    let i = v * 8 + k;
+    magnitude(table, x, k) * numbers[i]
 }
 
-// What the row frequency v brings to column x.
-fn reach(table: &[u64], rows: &[u64], x: usize, v: usize) -> u64
-    requires { ⌜ (now table ≡ magnitudeTable) × Rows (now rows) ⌝ }
-    requires { ⌜ (x < 4) × (v < 8) ⌝ }
-    ensures { λ r. ⌜ r ≡ reach (now (rows .entry)) x v ⌝ }
+// The magnitudes of column x along row v of the numbers.
+fn along(table: &[u64], numbers: &[u64], x: usize, v: usize) -> u64
+    requires { ⌜ (now table ≡ magnitudeTable) × Few (now numbers) ⌝ }
+    requires { ⌜ (x < 4) × (v * 8 + 8 ≤ length (now numbers)) ⌝ }
+    ensures { λ r. ⌜ r ≡ along (now (numbers .entry)) x v ⌝ }
 {
     let mut sum: u64 = 0;
-    let mut u = 0;
-    while u < 8 {
-        sum = sum + term(table, rows, x, v, u);
-        u += 1;
+    let mut k = 0;
+    while k < 8 {
+        sum = sum + term(table, numbers, x, v, k);
+        k += 1;
     }
     sum
 }
 
 // What each row frequency brings to the first four columns.
 fn fill_reaches(table: &[u64], rows: &[u64], reaches: &mut [u64])
-    requires { ⌜ (now table ≡ magnitudeTable) × Rows (now rows) ⌝ }
-    requires { ⌜ length (now reaches) ≡ 32 ⌝ }
+    requires { ⌜ (now table ≡ magnitudeTable) × Few (now rows) ⌝ }
+    requires { ⌜ (length (now rows) ≡ 64) × (length (now reaches) ≡ 32) ⌝ }
     ensures { λ r. ⌜ now (reaches .exit) ≡ reachTable (now (rows .entry)) ⌝ }
 {
     let mut p = 0;
     while p < 32 {
-        let w = reach(table, rows, p % 4, p / 4);
+        let w = along(table, rows, p / 8, p % 8);
         reaches[p] = w;
         p += 1;
     }
-}
-
-// |K(y,v)| times what the row frequency v brings to column x.
-fn row_term(table: &[u64], reaches: &[u64], y: usize, x: usize, v: usize) -> u64
-    requires { ⌜ (now table ≡ magnitudeTable) × Reaches (now reaches) ⌝ }
-    requires { ⌜ (y < 4) × ((x < 4) × (v < 8)) ⌝ }
-    ensures { λ r. ⌜ r ≡ magnitude y v * getD (now (reaches .entry)) (v * 4 + x) 0 ⌝ }
-{
-    let i = v * 4 + x;
-    magnitude(table, y, v) * reaches[i]
-}
-
-// The weight of row y, column x.
-fn weight_in(table: &[u64], reaches: &[u64], y: usize, x: usize) -> u64
-    requires { ⌜ (now table ≡ magnitudeTable) × Reaches (now reaches) ⌝ }
-    requires { ⌜ (y < 4) × (x < 4) ⌝ }
-    ensures { λ r. ⌜ r ≡ weightIn (now (reaches .entry)) y x ⌝ }
-{
-    let mut sum: u64 = 0;
-    let mut v = 0;
-    while v < 8 {
-        sum = sum + row_term(table, reaches, y, x, v);
-        v += 1;
-    }
-    sum
 }
 
 // What a place of this weight owes, d being 2^left.
@@ -162,13 +137,13 @@ fn owed_by(d: u64, weight: u64) -> u32
 
 // What each place of the first quarter owes, row by row.
 fn fill_quarter(table: &[u64], reaches: &[u64], d: u64, owed: &mut [u32])
-    requires { ⌜ (now table ≡ magnitudeTable) × Reaches (now reaches) ⌝ }
+    requires { ⌜ (now table ≡ magnitudeTable) × (Few (now reaches) × (length (now reaches) ≡ 32)) ⌝ }
     requires { ⌜ (1 ≤ d) × ((d ≤ 16) × (length (now owed) ≡ 16)) ⌝ }
     ensures { λ r. ⌜ now (owed .exit) ≡ quarter d (now (reaches .entry)) ⌝ }
 {
     let mut p = 0;
     while p < 16 {
-        let w = weight_in(table, reaches, p / 4, p % 4);
+        let w = along(table, reaches, p / 4, p % 4);
         let n = owed_by(d, w);
         owed[p] = n;
         p += 1;

@@ -7,14 +7,14 @@ use native.Mathlib.Omega.{arith}
 use lib.ListN.{length}
 use Rattle.laws.specs.Apart.{apartRounded}
 use Rattle.laws.proofs.Fill.{front, front-start, front-length, front-turn, front-end}
-use Rattle.previews.specs.Code.{weightIn, quarter}
-use Rattle.previews.proofs.Weights.{weight-small}
+use Rattle.previews.specs.Code.{along, quarter}
+use Rattle.previews.proofs.Weights.{along-small}
 use Rattle.previews.proofs.fill_quarter.Statement.{statement}
 use Rattle.previews.proofs.fill_quarter.Tie as tie
 
 -- the number at index p of the block
 abbrev owed-of : ℕ → List ℕ → ℕ → ℕ
-owed-of d reaches p = apartRounded d ((d - 1) * weightIn reaches (p / 4) (p % 4)) (2 ^ 28)
+owed-of d reaches p = apartRounded d ((d - 1) * along reaches (p / 4) (p % 4)) (2 ^ 28)
 
 abbrev Inv-loop : tie.InvT-loop
 Inv-loop table reaches d owed₀ p₀ owed p = (p ≤ 16) × (owed ≡ front owed₀ (owed-of d reaches) p)
@@ -30,14 +30,14 @@ long c =
     let a = c .before .before .before .before .args in
     ap length (c .loop .inv .1) ∙ front-length (a .owed .now) (owed-of (a .d) (a .reaches .now)) (c .loop .p) (omega arith)
 
-weight-in-requires : tie.Need-weight-in-requires Inv-loop μ-loop
-weight-in-requires c κs = let q = c .before .before .before .before .before .pre in (q .0, (omega arith, omega arith))
+along-requires : tie.Need-along-requires Inv-loop μ-loop
+along-requires c κs = let q = c .before .before .before .before .before .pre in ((q .0 .0, q .0 .1 .0), (omega arith, omega (arith, q .0 .1 .1)))
 
 owed-by-requires : tie.Need-owed-by-requires Inv-loop μ-loop
 owed-by-requires c κs =
     let at-entry = c .before .before .before .before .before .before in
     let p = c .before .before .loop .p in
-    (at-entry .pre .1 .0, (at-entry .pre .1 .1 .0, rw (c .weight-in .ensures) (weight-small (at-entry .args .reaches .now) (at-entry .pre .0 .1) (p / 4) (p % 4) (omega arith))))
+    (at-entry .pre .1 .0, (at-entry .pre .1 .1 .0, rw (c .along .ensures) (along-small (at-entry .args .reaches .now) (at-entry .pre .0 .1 .0) (p / 4) (p % 4) (omega arith))))
 
 slice-write-owed : tie.Need-slice-write-owed Inv-loop μ-loop
 slice-write-owed c = omega (arith, long (c .before .before .before))
@@ -49,7 +49,7 @@ loop-again c =
     let a = at-entry .args in
     let p = at-loop .loop .p in
     let room : p < length (a .owed .now) = omega (arith, at-entry .pre .1 .1 .1) in
-    (search needs, rw (c .owed-by .ensures, c .before .weight-in .ensures, at-loop .loop .inv .1) (front-turn (a .owed .now) (owed-of (a .d) (a .reaches .now)) p room))
+    (search needs, rw (c .owed-by .ensures, c .before .along .ensures, at-loop .loop .inv .1) (front-turn (a .owed .now) (owed-of (a .d) (a .reaches .now)) p room))
 
 same-length : tie.Need-same-length Inv-loop μ-loop
 same-length c = long (c .before)
@@ -69,7 +69,7 @@ fill-quarter-spec =
     Inv-loop
     μ-loop
     loop-holds
-    weight-in-requires
+    along-requires
     owed-by-requires
     (λ c. search needs)
     slice-write-owed
