@@ -13,6 +13,7 @@ pub mod Srgb
 pub mod Grey
 pub mod Preview
 pub mod PreviewResults
+pub mod PreviewLaws
 pub mod Shams
 pub mod Practice
 pub mod Written

@@ -27,11 +27,12 @@ use Rattle.levels.proofs.Ranges.{all-inside}
 use Rattle.plane_rules.specs.Levels.{downward, towardZero}
 use Rattle.transform_rules.specs.Cosines.{nineCosines, halfTurn, fullTurn, kernel}
 use Rattle.transform_rules.specs.Zigzag.{firstRow, lastRow, placesBefore, zigzag}
+use Rattle.transform_rules.specs.Picture.{picture}
 use Rattle.transform_rules.proofs.Lengths.{picture-length, zigzag-below}
 use Rattle.preview_rules.specs.Owed.{weight, owed}
 use Rattle.demands.specs.Two.{sampleAt}
 use Rattle.demands.specs.Three.{Both, Within, levelOf}
-use Rattle.demands.specs.Preview.{whole, LaidOut, SamplesOwe, PreviewsAreGiven, OwedByLargest, PicturesAreNear, OwedFalls, OwedIsReached}
+use Rattle.demands.specs.Preview.{whole, LaidOut, Previewed, Sound, SamplesOwe, PreviewsAreGiven, OwedByLargest, PicturesAreNear, OwedFalls, OwedIsReached}
 use Rattle.demands.proofs.Three.{demand-three, can-be-met}
 use Rattle.demands.proofs.Values.{samples-are}
 
@@ -180,17 +181,30 @@ module _ (level n : ℕ) (values : Both ℤ) (few : level ≤ 4) (a : Within lev
 
 pub previews-are-given : PreviewsAreGiven
 unfolding every
-previews-are-given k j n full quantisers room few below a long good fits =
+previews-are-given k j n full quantisers room few below a fits =
     let values = whole n (levelOf k full j) in
-    let b : Within j n (levelOf k full j) = demand-three k n full (λ i. can-be-met n (levelOf k full i) .0) few a (λ i _ _. can-be-met n (levelOf k full i) .1) .within j below in
+    let b : Within j n (levelOf k full j) = demand-three k n full (λ i. can-be-met n (levelOf k full i) .0) few (a .within) (λ i _ _. can-be-met n (levelOf k full i) .1) .within j below in
     let few′ : j ≤ 4 = omega arith in
     record {
-      counts = rw (le-leb j 4 few′, le-leb n 1024 (a .few));
-      lengths = rw (eq-eqb (length values) (n * 64) (whole-long j n (levelOf k full j) few′ b), eq-eqb (length quantisers) 64 long);
-      quantised = good;
+      counts = rw (le-leb j 4 few′, le-leb n 1024 (a .within .few));
+      lengths = rw (eq-eqb (length values) (n * 64) (whole-long j n (levelOf k full j) few′ b), eq-eqb (length quantisers) 64 (a .long));
+      quantised = a .quantised;
       ranged = whole-inside j n (levelOf k full j) few′ b;
       samples = refl;
       fits = omega (arith, picture-length j n values quantisers);
+    }
+
+-- a preview and the full picture
+pub both-given : (k j n : ℕ) (values : Both ℤ) (quantisers : List ℕ) → k ≤ 4 → j ≤ k → Sound k n values quantisers
+    → Previewed k j n values quantisers (picture j n (whole n (levelOf k values j)) quantisers) (picture k n (whole n values) quantisers)
+both-given k j n values quantisers few below a =
+    let same : levelOf k values k ≡ values = demand-three k n values (λ i. can-be-met n (levelOf k values i) .0) few (a .within) (λ i _ _. can-be-met n (levelOf k values i) .1) .whole in
+    record {
+      fewer = below;
+      room = n * 64;
+      shown = previews-are-given k j n values quantisers (n * 64) few below a (omega arith);
+      fullRoom = n * 64;
+      finished = rw same at (previews-are-given k k n values quantisers (n * 64) few (omega arith) a (omega arith));
     }
 
 -- ---- by the largest quantiser, and plane by plane
@@ -219,15 +233,12 @@ owed-by-largest left largest quantisers h y x hy hx =
     omega (arith, mul-le-mul-left e w, pow-pos left)
 
 pub pictures-are-near : PicturesAreNear
-pictures-are-near k j n values quantisers largest few below a long good small p h =
-    let lower = previews-are-given k j n values quantisers (n * 64) few below a long good (omega arith) in
-    let same : levelOf k values k ≡ values = demand-three k n values (λ i. can-be-met n (levelOf k values i) .0) few a (λ i _ _. can-be-met n (levelOf k values i) .1) .whole in
-    let upper = rw same at (previews-are-given k k n values quantisers (n * 64) few (omega arith) a long good (omega arith)) in
+pictures-are-near k j n values quantisers largest few below a small p h =
     let place : p / 64 * 64 + (p % 64 / 8 * 8 + p % 64 % 8) ≡ p = omega arith in
     let y : p % 64 / 8 < 8 = omega arith in
     let x : p % 64 % 8 < 8 = omega arith in
     le-trans
-    (rw place at (samples-owe k j n values quantisers _ _ (record { fewer = below; room = n * 64; shown = lower; fullRoom = n * 64; finished = upper }) (p / 64) (p % 64 / 8) (p % 64 % 8) (omega arith) y x))
+    (rw place at (samples-owe k j n values quantisers _ _ (both-given k j n values quantisers few below a) (p / 64) (p % 64 / 8) (p % 64 % 8) (omega arith) y x))
     (owed-by-largest (k - j) largest quantisers small (p % 64 / 8) (p % 64 % 8) y x)
 
 pub owed-falls : OwedFalls

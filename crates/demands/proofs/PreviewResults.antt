@@ -4,7 +4,7 @@ use mathlib.Core.Logic.{_⊎_, inl, inr, ⊎-elim}
 use mathlib.Core.Bool.{true, not}
 use mathlib.Core.List.{List, [], _∷_}
 use Prim.Native.Nat.{ℕ, zero, suc, _+_, _-_, _*_, _^_, min, _≤_, _<_}
-use native.Mathlib.Nat.{le-trans, mul-zero, mul-le-mul-left, mul-le-mul-right}
+use native.Mathlib.Nat.{mul-zero, mul-le-mul-left, mul-le-mul-right}
 use native.Mathlib.Omega.{arith}
 use lib.IntN.{ℤ, pos, negsuc, negℤ, natAbs, _+ℤ_, _-ℤ_, _*ℤ_}
 use lib.ListN.{getD}
@@ -37,8 +37,7 @@ use Rattle.merge_rules.specs.Picture.{pixelAt, mergedAt, planes, mergedPicture,
 use Rattle.merge_rules.proofs.Components.{one-or-three}
 use Rattle.demands.specs.Three.{levelOf}
 use Rattle.demands.specs.Cases.{resultOf}
-use Rattle.demands.specs.Preview.{whole, owedTint, owedColour, owedResult, owedBase, owedScaled, owedResidual, withPlanes, MergedBoth, Owes, ResultsOwe, BaseOwes, GreyOwes, ResultsFall, inFull, ResultsAreReached, ReachedFromBlocks, ResultsShown, PreviewLaws}
-use Rattle.demands.proofs.Preview.{laid-out, samples-owe, previews-are-given, owed-by-largest, pictures-are-near, owed-falls, owed-is-reached}
+use Rattle.demands.specs.Preview.{whole, owedTint, owedColour, owedResult, owedBase, owedScaled, owedResidual, withPlanes, MergedBoth, Owes, ResultsOwe, BaseOwes, ResultsFall, ResultsAreReached, ReachedFromBlocks}
 use Rattle.demands.proofs.Values.{results-are}
 
 -- ---- powers of two
@@ -280,7 +279,7 @@ module _ (s : Setting) (line : s .curve ≡ Straight) (unmixed : s .matrix ≡ N
 -- ---- the picture
 
 -- "one or three components"
-counted : (s : Setting) (pixels : ℕ) → inRanges s pixels ≡ true → (s .components ≡ 1) ⊎ (s .components ≡ 3)
+pub counted : (s : Setting) (pixels : ℕ) → inRanges s pixels ≡ true → (s .components ≡ 1) ⊎ (s .components ≡ 3)
 unfolding inRanges
 counted s pixels e = one-or-three (s .components) (every-first _ _ (every-rest _ _ (every-rest _ _ (every-rest _ _ (every-rest _ _ e)))))
 
@@ -412,20 +411,6 @@ base-owes s rh count base base′ residual finished shown both p there e owes c 
     let none : Owes s (s .rr - s .rr) count residual residual p (single 0) = λ k l. alike-owes (s .rr) k (getD residual (k * count + p) (pos 0)) in
     omega (arith, results-owe s rh (s .rr) count base base′ residual residual finished shown both p there e (single 0) owes none c h, no-part s (s .residual) c)
 
--- ---- from blocks to results
-
-pub grey-owes : GreyOwes
-unfolding component
-grey-owes s j n values quantisers preview full residual finished shown one seen both block y x h hy hx =
-    let p = block * 64 + (y * 8 + x) in
-    let there : p < n * 64 = omega arith in
-    let first : 0 * (n * 64) + p ≡ p = omega arith in
-    let owes : Owes s (s .rh - j) (n * 64) full preview p (single (owed (s .rh - j) quantisers y x)) = λ c l.
-    let z : c * (n * 64) + p ≡ p = let k : c ≡ 0 = omega arith in ap (λ i. i * (n * 64) + p) k ∙ first in
-    rw z (samples-owe (s .rh) j n values quantisers preview full seen block y x h hy hx)
-    in
-    rw first at (base-owes s j (n * 64) full preview residual finished shown both p there (single (owed (s .rh - j) quantisers y x)) owes 0 (omega arith))
-
 -- ---- plane by plane
 
 module _ (left m : ℕ) (fewer : left ≤ m) (e less : Pixel ℕ) (smaller : (c : ℕ) → component c less ≤ component c e) where
@@ -442,12 +427,12 @@ module _ (left m : ℕ) (fewer : left ≤ m) (e less : Pixel ℕ) (smaller : (c 
   colour-falls Transform (suc zero) = tint-falls 344136 714136
   colour-falls Transform (suc (suc c)) = tint-falls 1772000 0
 
-base-falls : (s : Setting) (rh : ℕ) (e less : Pixel ℕ) → ((c : ℕ) → component c less ≤ component c e) → (c : ℕ) → owedBase s (suc rh) less c ≤ owedBase s rh e c
+pub base-falls : (s : Setting) (rh rh′ : ℕ) (e less : Pixel ℕ) → rh ≤ rh′ → ((c : ℕ) → component c less ≤ component c e) → (c : ℕ) → owedBase s rh′ less c ≤ owedBase s rh e c
 unfolding owedBase owedResult
-base-falls s rh e less smaller c =
-    let left : s .rh - suc rh ≤ s .rh - rh = omega arith in
-    let h = colour-falls (s .rh - suc rh) (s .rh - rh) left e less smaller (s .«base_transform») c in
-    rounded-rises 1 1 _ _ (top (s .rh)) (top-some (s .rh)) (omega arith) (mul-le-mul-left (top (s .rb)) (omega (arith, pow-mono {i = s .rh - suc rh} {j = s .rh - rh} left)))
+base-falls s rh rh′ e less more smaller c =
+    let left : s .rh - rh′ ≤ s .rh - rh = omega arith in
+    let h = colour-falls (s .rh - rh′) (s .rh - rh) left e less smaller (s .«base_transform») c in
+    rounded-rises 1 1 _ _ (top (s .rh)) (top-some (s .rh)) (omega arith) (mul-le-mul-left (top (s .rb)) (omega (arith, pow-mono {i = s .rh - rh′} {j = s .rh - rh} left)))
 
 scaled-falls : (rb rr : ℕ) (r less : Pixel ℕ) → ((c : ℕ) → component c less ≤ component c r) → (c : ℕ) → component c (pixels.each (owedScaled rb rr) less) ≤ component c (pixels.each (owedScaled rb rr) r)
 unfolding owedScaled
@@ -460,7 +445,7 @@ residual-falls s Absent r less smaller c = omega arith
 residual-falls s Present r less smaller c = colour-falls 0 0 (omega arith) _ _ (scaled-falls (s .rb) (s .rr) r less smaller) (s .«residual_transform») c
 
 pub results-fall : ResultsFall
-results-fall s rh e e′ r r′ smaller smaller′ c = omega (arith, base-falls s rh e e′ smaller c, residual-falls s (s .residual) r r′ smaller′ c)
+results-fall s rh e e′ r r′ smaller smaller′ c = omega (arith, base-falls s rh (suc rh) e e′ (omega arith) smaller c, residual-falls s (s .residual) r r′ smaller′ c)
 
 -- ---- no smaller numbers will do
 
@@ -474,35 +459,3 @@ pub reached-from-blocks : ReachedFromBlocks
 unfolding owed weight totalTo zigzag placesBefore firstRow lastRow kernel fullTurn halfTurn nineCosines whole levelOf downward towardZero sumTo owedBase owedResult owedColour apartRounded tab joinTo
     merged stepFive withResidual alone stepFour scaled basis stepThree matrixed stepTwo curved straight nearest stepOne recolour firstCentre pixels.each component clip
 reached-from-blocks = (refl, refl)
-
--- ---- the laws used
-
-none-over : (colour : Colour) (residual : Residual) (components c : ℕ) → owedBase (inFull components colour residual) 0 (single 113) c ≤ 336
-unfolding owedBase owedResult owedColour owedTint apartRounded component
-none-over Identity residual components c = omega arith
-none-over Transform residual components zero = omega arith
-none-over Transform residual components (suc zero) = omega arith
-none-over Transform residual components (suc (suc c)) = omega arith
-
-pub results-shown : ResultsShown
-unfolding component
-results-shown components count colour residual base base′ rest finished shown both p there near c h =
-    le-trans (base-owes (inFull components colour residual) 0 count base base′ rest finished shown both p there (single 113) near c h) (none-over colour residual components c)
-
-pub preview-laws : PreviewLaws
-preview-laws = record {
-  laidOut = laid-out;
-  samples = samples-owe;
-  handed = previews-are-given;
-  largest = owed-by-largest;
-  near = pictures-are-near;
-  falls = owed-falls;
-  reached = owed-is-reached;
-  results = results-owe;
-  base = base-owes;
-  grey = grey-owes;
-  resultsFall = results-fall;
-  resultsReached = results-are-reached;
-  fromBlocks = reached-from-blocks;
-  resultsShown = results-shown;
-}

@@ -3,6 +3,7 @@
 -- After j of k planes a preview has the values of level j (D3), and is transformed at R = j. Times 2^(k-j), each of its samples is at most `owed` (V2) away from the full picture's at the same place.
 -- With quantisers 1 that is 8, 23, 53, 113 for one to four planes left, of 4096 where k is 4; there are blocks that owe just that much.
 use mathlib.Core.Path.{_≡_}
+use mathlib.Core.Bool.{true}
 use mathlib.Core.List.{List, [], _∷_, _++_, map}
 use Prim.Native.Nat.{ℕ, suc, _+_, _-_, _*_, _/_, _^_, _≤_, _<_}
 use lib.IntN.{ℤ, pos, negsuc, _-ℤ_, _*ℤ_}
@@ -23,6 +24,8 @@ use Rattle.merge_rules.specs.declared.Colour.the-variants.{Identity, Transform}
 use Rattle.merge_rules.specs.declared.Matrix.the-variants.{None}
 use Rattle.merge_rules.specs.declared.Residual.{Residual}
 use Rattle.merge_rules.specs.declared.Residual.the-variants.{Absent, Present}
+use Rattle.merge_rules.specs.Settings.{inRanges, plain, residualCount, samples}
+use Rattle.merge_rules.specs.Picture.{mergedPicture}
 use Rattle.merge_rules.specs.Steps as steps
 use Rattle.demands.specs.Two.{Sampled, Merged, sampleAt}
 use Rattle.demands.specs.Three.{Both, Within, levelOf}
@@ -48,6 +51,12 @@ pub record Previewed (k j n : ℕ) (values : Both ℤ) (quantisers : List ℕ) (
   pub fullRoom : ℕ
   pub finished : Sampled k n (whole n values) quantisers fullRoom full
 
+-- D9: any blocks within the ranges, and quantisers that the transform takes
+pub record Sound (k n : ℕ) (values : Both ℤ) (quantisers : List ℕ) : Type 0 where
+  pub within : Within k n values
+  pub long : length quantisers ≡ 64
+  pub quantised : firstBadQuantiser quantisers ≡ Nothing
+
 -- D9: the law of the samples
 abbrev pub SamplesOwe : Type 0
 SamplesOwe =
@@ -58,8 +67,7 @@ SamplesOwe =
 -- D9: and each preview is handed out, of any blocks within the ranges, given room and good quantisers; the full picture is j = k
 abbrev pub PreviewsAreGiven : Type 0
 PreviewsAreGiven =
-    (k j n : ℕ) (values : Both ℤ) (quantisers : List ℕ) (room : ℕ) → k ≤ 4 → j ≤ k → Within k n values → length quantisers ≡ 64
-    → firstBadQuantiser quantisers ≡ Nothing → n * 64 ≤ room
+    (k j n : ℕ) (values : Both ℤ) (quantisers : List ℕ) (room : ℕ) → k ≤ 4 → j ≤ k → Sound k n values quantisers → n * 64 ≤ room
     → Sampled j n (whole n (levelOf k values j)) quantisers room (picture j n (whole n (levelOf k values j)) quantisers)
 
 -- D9: in short, by the largest quantiser
@@ -71,8 +79,8 @@ OwedByLargest =
 -- D9: these three together: of any blocks within the ranges every sample of every preview is so near
 abbrev pub PicturesAreNear : Type 0
 PicturesAreNear =
-    (k j n : ℕ) (values : Both ℤ) (quantisers : List ℕ) (largest : ℕ) → k ≤ 4 → j ≤ k → Within k n values → length quantisers ≡ 64
-    → firstBadQuantiser quantisers ≡ Nothing → ((i : ℕ) → getD quantisers i 0 ≤ largest) → (p : ℕ) → p < n * 64
+    (k j n : ℕ) (values : Both ℤ) (quantisers : List ℕ) (largest : ℕ) → k ≤ 4 → j ≤ k → Sound k n values quantisers
+    → ((i : ℕ) → getD quantisers i 0 ≤ largest) → (p : ℕ) → p < n * 64
     → apart (2 ^ (k - j)) (getD (picture k n (whole n values) quantisers) p (pos 0)) (getD (picture j n (whole n (levelOf k values j)) quantisers) p (pos 0))
     ≤ 7 * largest * (2 ^ (k - j) - 1) + 2 ^ (k - j) / 2
 
@@ -155,13 +163,37 @@ BaseOwes =
     → (p : ℕ) → p < pixels → (e : Pixel ℕ) → Owes s (s .rh - rh) pixels base base′ p e
     → (c : ℕ) → c < s .components → apart 1 (pos (getD finished (c * pixels + p) 0)) (pos (getD shown (c * pixels + p) 0)) ≤ owedBase s rh e c
 
--- D10: both laws together, from the blocks of a grey picture to its results, block by block
-abbrev pub GreyOwes : Type 0
-GreyOwes =
-    (s : Setting) (j n : ℕ) (values : Both ℤ) (quantisers : List ℕ) (preview full residual : List ℤ) (finished shown : List ℕ) → s .components ≡ 1
-    → Previewed (s .rh) j n values quantisers preview full → MergedBoth s j (s .rr) (n * 64) full preview residual residual finished shown
-    → (block y x : ℕ) → block < n → y < 8 → x < 8
-    → apart 1 (pos (getD finished (block * 64 + (y * 8 + x)) 0)) (pos (getD shown (block * 64 + (y * 8 + x)) 0)) ≤ owedBase s j (single (owed (s .rh - j) quantisers y x)) 0
+-- D10: and where the full picture is merged, each preview is, from as many samples, whatever they are
+abbrev pub ResultsAreGiven : Type 0
+ResultsAreGiven =
+    (s : Setting) (rh rr pixels : ℕ) (base base′ residual residual′ : List ℤ) (room : ℕ) (finished : List ℕ) → s .curve ≡ Straight → rh ≤ s .rh → rr ≤ s .rr
+    → Merged s pixels base residual [] room finished → length base′ ≡ length base → length residual′ ≡ length residual
+    → Merged (withPlanes rh rr s) pixels base′ residual′ [] room (mergedPicture (withPlanes rh rr s) pixels base′ residual′ [])
+
+-- D10: the base of a picture at level j: component after component as the transform hands it out, with blocks and quantisers of its own
+abbrev pub baseAt : ℕ → ℕ → ℕ → (ℕ → Both ℤ) → (ℕ → List ℕ) → List ℤ
+baseAt components j n values quantisers = joinTo components (λ c. picture j n (whole n (values c)) (quantisers c))
+
+-- D10: what the components owe at one place of their blocks
+abbrev pub owedAt : ℕ → (ℕ → List ℕ) → ℕ → ℕ → Pixel ℕ
+owedAt left quantisers y x = triple (owed left (quantisers 0) y x) (owed left (quantisers 1) y x) (owed left (quantisers 2) y x)
+
+-- D10: quantisers 1, 2 and 3: 104.69, 209.37 and 314.06 for four planes left, and 8 and a half each for the roundings
+abbrev pub OwedByOwnQuantisers : Type 0
+OwedByOwnQuantisers = map (λ c. component c (owedAt 4 (λ i. replicate 64 (suc i)) 0 0)) (0 ∷ 1 ∷ 2 ∷ []) ≡ 113 ∷ 217 ∷ 322 ∷ []
+
+-- D9, D10: all of it together, in grey or in colour: of any blocks within the ranges every result of every preview is so near
+abbrev pub ResultsAreNear : Type 0
+ResultsAreNear =
+    (s : Setting) (j n : ℕ) (values : ℕ → Both ℤ) (quantisers : ℕ → List ℕ) (residual : List ℤ) → s .curve ≡ Straight → s .matrix ≡ None
+    → inRanges s (n * 64) ≡ true → plain s ≡ true → length residual ≡ residualCount (s .residual) (samples s (n * 64)) → j ≤ s .rh
+    → ((c : ℕ) → c < s .components → Sound (s .rh) n (values c) (quantisers c))
+    → (block y x c : ℕ) → block < n → y < 8 → x < 8 → c < s .components
+    → apart 1
+    (pos (getD (mergedPicture s (n * 64) (baseAt (s .components) (s .rh) n values quantisers) residual []) (c * (n * 64) + (block * 64 + (y * 8 + x))) 0))
+    (pos (getD (mergedPicture (withPlanes j (s .rr) s) (n * 64) (baseAt (s .components) j n (λ i. levelOf (s .rh) (values i) j) quantisers) residual [])
+    (c * (n * 64) + (block * 64 + (y * 8 + x))) 0))
+    ≤ owedBase s j (owedAt (s .rh - j) quantisers y x) c
 
 -- D10: with one plane more of the base, and where no sample of base and residual owes more than before, a result never owes more
 abbrev pub ResultsFall : Type 0
@@ -250,15 +282,22 @@ ReachedFromBlocks =
     ≡ 9 ∷ 26 ∷ 59 ∷ 126 ∷ [])
     × (map (λ j. owedBase (inFull 1 Identity Absent) j (single (owed (4 - j) (replicate 64 1) 0 0)) 0) (3 ∷ 2 ∷ 1 ∷ 0 ∷ []) ≡ 9 ∷ 26 ∷ 60 ∷ 128 ∷ [])
 
--- ---- by these laws, at Rb 4 and with none of four planes read, where each sample owes at most 113
+-- ---- by these laws, at Rb 4 and with quantisers 1
 
--- D10: with no residual or the same in both, no component of a pixel is further off than 336 of 4095, in grey or in colour
+-- D10: the results of a picture whose base is at level j
+abbrev pub resultsAt : ℕ → ℕ → Colour → Residual → ℕ → (ℕ → Both ℤ) → List ℤ → List ℕ
+resultsAt j components colour residual n values rest =
+    mergedPicture (withPlanes j 4 (inFull components colour residual)) (n * 64) (baseAt components j n values (λ c. replicate 64 1)) rest []
+
+-- D10: with none of four planes read no component of a pixel is further off than 336 of 4095, in grey or in colour, whatever the picture
 abbrev pub ResultsShown : Type 0
 ResultsShown =
-    (components pixels : ℕ) (colour : Colour) (residual : Residual) (base base′ rest : List ℤ) (finished shown : List ℕ)
-    → MergedBoth (inFull components colour residual) 0 4 pixels base base′ rest rest finished shown
-    → (p : ℕ) → p < pixels → ((c : ℕ) → c < components → apart 16 (getD base (c * pixels + p) (pos 0)) (getD base′ (c * pixels + p) (pos 0)) ≤ 113)
-    → (c : ℕ) → c < components → apart 1 (pos (getD finished (c * pixels + p) 0)) (pos (getD shown (c * pixels + p) 0)) ≤ 336
+    (components n : ℕ) (colour : Colour) (residual : Residual) (values : ℕ → Both ℤ) (rest : List ℤ) → inRanges (inFull components colour residual) (n * 64) ≡ true
+    → plain (inFull components colour residual) ≡ true → length rest ≡ residualCount residual (components * (n * 64)) → ((c : ℕ) → c < components → Within 4 n (values c))
+    → (p c : ℕ) → p < n * 64 → c < components
+    → apart 1 (pos (getD (resultsAt 4 components colour residual n values rest) (c * (n * 64) + p) 0))
+    (pos (getD (resultsAt 0 components colour residual n (λ i. levelOf 4 (values i) 0) rest) (c * (n * 64) + p) 0))
+    ≤ 336
 
 -- D9, D10: all of these
 pub record PreviewLaws : Type 0 where
@@ -271,7 +310,9 @@ pub record PreviewLaws : Type 0 where
   pub reached : OwedIsReached
   pub results : ResultsOwe
   pub base : BaseOwes
-  pub grey : GreyOwes
+  pub resultsHanded : ResultsAreGiven
+  pub ownQuantisers : OwedByOwnQuantisers
+  pub resultsNear : ResultsAreNear
   pub resultsFall : ResultsFall
   pub resultsReached : ResultsAreReached
   pub fromBlocks : ReachedFromBlocks
