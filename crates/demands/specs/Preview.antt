@@ -178,7 +178,7 @@ baseAt components j n values quantisers = joinTo components (λ c. picture j n (
 abbrev pub owedAt : ℕ → (ℕ → List ℕ) → ℕ → ℕ → Pixel ℕ
 owedAt left quantisers y x = triple (owed left (quantisers 0) y x) (owed left (quantisers 1) y x) (owed left (quantisers 2) y x)
 
--- D10: quantisers 1, 2 and 3: 104.69, 209.37 and 314.06 for four planes left, and 8 and a half each for the roundings
+-- D10: quantisers 1, 2 and 3: 104.69, 209.38 and 314.07 for four planes left, and 8 and a half each for the roundings
 abbrev pub OwedByOwnQuantisers : Type 0
 OwedByOwnQuantisers = map (λ c. component c (owedAt 4 (λ i. replicate 64 (suc i)) 0 0)) (0 ∷ 1 ∷ 2 ∷ []) ≡ 113 ∷ 217 ∷ 322 ∷ []
 
