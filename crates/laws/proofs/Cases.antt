@@ -27,8 +27,7 @@ totalled = refl
 pub distances : apart 3 (pos 20) (pos 6) ∷ apart 3 (pos 20) (pos 7) ∷ apart 3 (negsuc 19) (negsuc 5) ∷ [] ≡ 2 ∷ 1 ∷ 2 ∷ []
 distances = refl
 
--- 5/10 against 16 times 0/10 (at most 8 and a half, so 8); two halves of one scale are 0 apart, and with 1 between the numerators 1; 73/10 against 4 times 14/10, both rounded, 7 against 4: 3 tenths less than
--- the 2 and a half of the roundings and 17 tenths, 4.2 and so 4
+-- 80/10 is 16 times 5/10: rounded 8 and 1, so 8 apart; 5/10 and itself are not; 4/10 and 5/10, 1 between them, are rounded 0 and 1; 3/10 is 4 times 5/10 but for 17/10: rounded 0 and 1, so 4 apart
 pub roundings : apartRounded 16 0 10 ∷ apartRounded 1 0 10 ∷ apartRounded 1 1 10 ∷ apartRounded 4 17 10 ∷ [] ≡ 8 ∷ 0 ∷ 1 ∷ 4 ∷ []
 unfolding apartRounded
 roundings = refl
