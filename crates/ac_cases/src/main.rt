@@ -1,4 +1,4 @@
-// Readings of one AC block, case c of the whiteboard (S3) first: a line for each, with the number, the place, and the values at positions 1, 2, 17 and 63.
+// Readings of one AC block, case c of the whiteboard (S3) first: a line for each, with the number, the place, the second place, and the values at positions 1, 2, 17 and 63.
 fn say(text: &[u8]) {
     io::write_all(1, text);
 }
@@ -36,6 +36,8 @@ fn read_one(name: &[u8], codes: &[u8], data: &[u8], first: i32, last: i32) {
     io::print_decimal(1, a.number as u64);
     say(b" ");
     io::print_decimal(1, a.place as u64);
+    say(b" ");
+    io::print_decimal(1, a.second as u64);
     say_value(destination[0]);
     say_value(destination[1]);
     say_value(destination[16]);

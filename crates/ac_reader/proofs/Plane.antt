@@ -12,7 +12,7 @@ use lib.Seq.{drop-drop, getD-take, getD-drop}
 use borrow.Rule.Slice.PartMut.{putMid, drop-put, same-len-mid, mid-len}
 use Rattle.laws.proofs.Integers.{split}
 use Rattle.laws.proofs.Parts.{drop-later, take-put-end}
-use Rattle.answers.specs.Verdict.{refusal}
+use Rattle.answers.specs.Verdict.{refusalAt}
 use Rattle.bit_rules.specs.Source.{start, got, stopped}
 use Rattle.bits.specs.Code.{unread, sourceOf}
 use Rattle.bits.proofs.Taking.{start-source}
@@ -83,7 +83,7 @@ module _ {bytes : List ℕ} {T : Table} {blocks : ℕ} {values before now : List
       behind-part = drop-put at (at + 63) now part (omega arith) fits long ∙ drop-later at (at + 63) (omega arith) now before (a .rest)
 
       pub behind-stopped : {x : Stop} → acBlock T (blocks - block) (openOf task) (take (at + 63 - at) (drop at values)) (sourceOf bytes c) ≡ stopped x
-          → Ran bytes (63 * blocks) whole before (putMid at (at + 63 - at) now part) (Refused (refusal (x .number) block))
+          → Ran bytes (63 * blocks) whole before (putMid at (at + 63 - at) now part) (Refused (refusalAt (x .number) block (x .offset)))
       unfolding planeOf acBlocks onto
       behind-stopped e = record {
         same = rw (next, left, e) at (a .same);

@@ -110,9 +110,9 @@ module _ {bytes : List ℕ} {values before now : List ℤ} {o : Option Task} {t 
 -- ---- a walk
 
 module _ {bytes : List ℕ} {values before now : List ℤ} {o : Option Task} {s : Option Bool} {c d : Cursor} {i j : ℕ} where
-  pub carries-past : {m : ℕ} → Carries bytes values before now o (some (walk m s)) c d i j → length values ≤ j → Closes bytes values before now o c i (Stopped (stop 16))
-  unfolding blockOf blockEnd
-  carries-past k h = carries-end k (Stopped (stop 16)) h refl
+  pub carries-past : {m : ℕ} → Carries bytes values before now o (some (walk m s)) c d i j → length values ≤ j → Closes bytes values before now o c i (Stopped (stop 16 (d .last)))
+  unfolding blockOf blockEnd sourceOf
+  carries-past k h = carries-end k (Stopped (stop 16 (d .last))) h refl
 
   pub carries-passed : (m : ℕ) → Carries bytes values before now o (some (walk m s)) c d i j → j < length values → getD values j (pos 0) ≡ pos 0 → (m ≡ 0 → ⊥)
       → Carries bytes values before (set now j (pos 0)) o (some (walk (m - 1) s)) c d i (j + 1)

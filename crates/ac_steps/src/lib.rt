@@ -12,7 +12,6 @@ use ac_tasks::Block;
 use ac_tasks::Job;
 use ac_tasks::Open;
 use ac_values::Fixed;
-use bit_rules::Stop;
 use bits::Cursor;
 
 // What a task comes to: it is done, and this is the next position; or the block is over.
@@ -62,7 +61,7 @@ fn walk(
             }
         }
     }
-    Step::Out(Block::Stopped(Stop { number: 16 }))
+    Step::Out(ac_tasks::no_place(cursor))
 }
 
 // The rest of a block in an end run: corrections alone.

@@ -9,6 +9,7 @@ use lib.Bits.{bitAnd, and-mask}
 use lib.Dec.{leb}
 use borrow.Author.Tests.{le-leb, lt-leb}
 use Rattle.bit_rules.specs.Source.{Source, stopped, stop}
+use Rattle.bits.specs.Code.{sourceOf}
 use Rattle.bits.specs.declared.Cursor.{Cursor}
 use Rattle.plane_rules.specs.Task.{walk, ended, over}
 use Rattle.plane_rules.specs.AcRead.{meaning, blockEnd}
@@ -34,8 +35,8 @@ module _ {task : Open} {c : Cursor} where
   ends-none e = rw e (record { same = λ bytes. refl })
 
   module _ {job : Job} (e : task ≡ Doing job) where
-    pub ends-walk : {n : ℕ} {sign : Option Bool} → taskOf job ≡ walk n sign → BlockEnds task c (Stopped (stop 16))
-    unfolding blockEnd blockOf
+    pub ends-walk : {n : ℕ} {sign : Option Bool} → taskOf job ≡ walk n sign → BlockEnds task c (Stopped (stop 16 (c .last)))
+    unfolding blockEnd blockOf sourceOf
     ends-walk q = record { same = λ bytes. rw (e, q) }
 
     pub ends-run : {n : ℕ} {next : Open} → job ≡ Ended n → openOf next ≡ over (openOf (Doing job)) → BlockEnds task c (Done next c)
@@ -59,7 +60,7 @@ low-bits v s e = sym (and-mask v 4) ∙ e
 pub low-one : (v : ℕ) → (bitAnd v 15 ≡ 0 → ⊥) → bitAnd v 15 ≤ 1 → v % 16 ≡ 1
 low-one v z l = low-bits v 1 (omega arith)
 
-pub unused : (v left r : ℕ) (s : Source) → 1 < bitAnd v 15 → stopped (stop 15) ≡ meaning left r (v % 16) s
+pub unused : (v left r : ℕ) (s : Source) → 1 < bitAnd v 15 → stopped (stop 15 (s .last)) ≡ meaning left r (v % 16) s
 unfolding meaning
 unused v left r s h =
     let m : bitAnd v 15 ≡ v % 16 = and-mask v 4 in

@@ -1,4 +1,4 @@
-// Writes of AC planes, each a line: its name, the number, the place, and the first four bytes of the destination, which holds 9s before.
+// Writes of AC planes, each a line: its name, the number, the place, the second place, and the first four bytes of the destination, which holds 9s before.
 fn say(text: &[u8]) {
     io::write_all(1, text);
 }
@@ -41,6 +41,7 @@ fn write_part(
     say(name);
     say_number(a.number as u64);
     say_number(a.place as u64);
+    say_number(a.second as u64);
     say_number(wide(destination[0]));
     say_number(wide(destination[1]));
     say_number(wide(destination[2]));

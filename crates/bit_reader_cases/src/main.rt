@@ -1,4 +1,5 @@
-// Bits taken one by one through a reader that holds its data: a line for each case, with the bits, the number that is given, and the bytes read.
+// Bits taken one by one through a reader that holds its data: a line for each case. It has each bit with the offset of the byte it came from (1@0), and the number
+// that is given, where the data end or break with the offset told (12@1), and the bytes read.
 use bits::Cursor;
 use bits::Taken;
 
@@ -6,19 +7,24 @@ fn say(text: &[u8]) {
     io::write_all(1, text);
 }
 
-fn say_bit(bit: bool) {
-    if bit {
-        say(b"1");
-    } else {
-        say(b"0");
-    }
+fn say_number(number: u64) {
+    io::print_decimal(1, number);
 }
 
-fn say_answer(number: u64, seen: usize) {
+// A bit, and the byte it came from.
+fn say_bit(bit: bool, byte: usize) {
+    if bit {
+        say(b"1@");
+    } else {
+        say(b"0@");
+    }
+    say_number(byte as u64);
     say(b" ");
-    io::print_decimal(1, number);
+}
+
+fn say_seen(seen: usize) {
     say(b" ");
-    io::print_decimal(1, seen as u64);
+    say_number(seen as u64);
     say(b"\n");
 }
 
@@ -26,15 +32,20 @@ fn say_answer(number: u64, seen: usize) {
 fn say_end(data: &[u8], c: Cursor) {
     let e = bits::reader::end_at(data, c);
     if e.padding {
-        return say_answer(0, e.seen);
+        say(b"0");
+        return say_seen(e.seen);
     }
-    say_answer(18, e.seen);
+    say(b"18");
+    say_seen(e.seen);
 }
 
-// Where the data end or break, the bytes read before.
-fn say_stop(data: &[u8], c: Cursor, number: u64) {
+// Where the data end or break, the offset told and the bytes read before.
+fn say_stop(data: &[u8], c: Cursor, number: u64, offset: usize) {
     let e = bits::reader::end_at(data, c);
-    say_answer(number, e.seen);
+    say_number(number);
+    say(b"@");
+    say_number(offset as u64);
+    say_seen(e.seen);
 }
 
 // This many bits.
@@ -43,17 +54,18 @@ fn show(data: &[u8], count: usize) {
         at: 0,
         left: 0,
         byte: 0,
+        last: 0,
     };
     let mut i = 0;
     while i < count {
         let t = bits::reader::bit_at(data, c);
         match t {
             Taken::Bit(bit, next) => {
-                say_bit(bit);
+                say_bit(bit, next.last);
                 c = next;
             }
             Taken::Stopped(x) => {
-                return say_stop(data, c, x.number as u64);
+                return say_stop(data, c, x.number as u64, x.offset);
             }
         }
         i += 1;
@@ -70,14 +82,17 @@ fn main() {
     // No data: nothing asked, a bit asked.
     show(b"", 0);
     show(b"", 1);
-    // "FF as last byte is 12"; another byte after FF; "The 00 is tested and counted with its FF.".
+    // The byte behind the last one is missing.
+    show(b"\x5A", 9);
+    // "FF as last byte is 12", and the byte behind it is missing; another byte after FF; "The 00 is tested and counted with its FF.".
     show(b"\xFF", 1);
     show(b"\xFF\x01", 1);
     show(b"\xFF\x00", 1);
+    show(b"\xFF\x00\xFF", 9);
     // "A byte is read only when a bit of it is needed": 18 before 12, and 13 once it is needed.
     show(b"\xBF\xFF", 1);
     show(b"\xBF\xFF\x01", 9);
-    // Bytes left, though they are ones; zeros for padding.
+    // Bytes left, though they are ones; zeros for padding. A bit's byte is the FF, never its 00.
     show(b"\xFF\x00\xFF\x00", 8);
     show(b"\x7F\xFF\x00\x80", 17);
 }

@@ -1,4 +1,4 @@
--- Bits and bytes (B1 to B7), on each side of each edge, worked out by hand and computed over the definitions. Assumes nothing.
+-- Bits and bytes (B1 to B8), on each side of each edge, worked out by hand and computed over the definitions. Assumes nothing.
 use mathlib.Core.Path.{_≡_, refl}
 use mathlib.Core.List.{List, [], _∷_, _++_, map}
 use mathlib.Core.Bool.{Bool, true, false}
@@ -40,29 +40,36 @@ takes count from answer = record { count = count; from = from; answer = answer }
 -- "A byte is read only when a bit of it is needed": what follows the byte in hand is not looked at
 -- "The 00 is tested and counted with its FF"; 13: "FF without 00 after it"
 -- "FF as last byte is 12", and 12: "data end early"
+-- "the offset of the byte it came from, or of the byte that was missing .. an FF that ends the data counts the byte after it as missing, and 13 gives its FF":
+-- the last number of a source, and of a stop; a bit of FF 00 has the FF, and the byte behind the 00 has its own offset
 abbrev takings : List Taking
 takings =
-    takes 8 (start (0x43 ∷ [])) (got (false ∷ true ∷ false ∷ false ∷ false ∷ false ∷ true ∷ true ∷ []) (source [] [] 1))
-    ∷ takes 3 (start (0x43 ∷ 0xff ∷ [])) (got (false ∷ true ∷ false ∷ []) (source (false ∷ false ∷ false ∷ true ∷ true ∷ []) (0xff ∷ []) 1))
-    ∷ takes 9 (start (0x01 ∷ 0x80 ∷ [])) (got (zeros 7 ++ (true ∷ true ∷ [])) (source (zeros 7) [] 2))
-    ∷ takes 9 (start (0xff ∷ 0x00 ∷ 0x80 ∷ [])) (got (ones 9) (source (zeros 7) [] 3))
-    ∷ takes 9 (start (0xff ∷ 0x00 ∷ 0x00 ∷ [])) (got (ones 8 ++ (false ∷ [])) (source (zeros 7) [] 3))
-    ∷ takes 9 (start (0xfe ∷ 0x01 ∷ [])) (got (ones 7 ++ (false ∷ false ∷ [])) (source (zeros 6 ++ (true ∷ [])) [] 2))
-    ∷ takes 9 (start (0x00 ∷ 0x00 ∷ [])) (got (zeros 9) (source (zeros 7) [] 2))
-    ∷ takes 1 (start (0xff ∷ 0x00 ∷ 0x43 ∷ [])) (got (true ∷ []) (source (ones 7) (0x43 ∷ []) 2))
-    ∷ takes 0 (start (0xff ∷ 0x01 ∷ [])) (got [] (source [] (0xff ∷ 0x01 ∷ []) 0))
-    ∷ takes 8 (start (0x43 ∷ 0xff ∷ 0x01 ∷ [])) (got (false ∷ true ∷ zeros 4 ++ ones 2) (source [] (0xff ∷ 0x01 ∷ []) 1))
-    ∷ takes 9 (start (0x43 ∷ 0xff ∷ 0x01 ∷ [])) (stopped (stop 13))
-    ∷ takes 1 (start (0xff ∷ 0x01 ∷ [])) (stopped (stop 13))
-    ∷ takes 1 (start (0xff ∷ 0xff ∷ [])) (stopped (stop 13))
-    ∷ takes 8 (start (0x43 ∷ 0xff ∷ [])) (got (false ∷ true ∷ zeros 4 ++ ones 2) (source [] (0xff ∷ []) 1))
-    ∷ takes 9 (start (0x43 ∷ 0xff ∷ [])) (stopped (stop 12))
-    ∷ takes 1 (start (0xff ∷ [])) (stopped (stop 12))
-    ∷ takes 0 (start []) (got [] (source [] [] 0))
-    ∷ takes 1 (start []) (stopped (stop 12))
-    ∷ takes 9 (start (0xff ∷ 0x00 ∷ [])) (stopped (stop 12))
-    ∷ takes 2 (source (true ∷ false ∷ []) [] 5) (got (true ∷ false ∷ []) (source [] [] 5))
-    ∷ takes 3 (source (true ∷ false ∷ []) (0x80 ∷ []) 5) (got (true ∷ false ∷ true ∷ []) (source (zeros 7) [] 6))
+    takes 8 (start (0x43 ∷ [])) (got (false ∷ true ∷ false ∷ false ∷ false ∷ false ∷ true ∷ true ∷ []) (source [] [] 1 0))
+    ∷ takes 3 (start (0x43 ∷ 0xff ∷ [])) (got (false ∷ true ∷ false ∷ []) (source (false ∷ false ∷ false ∷ true ∷ true ∷ []) (0xff ∷ []) 1 0))
+    ∷ takes 9 (start (0x01 ∷ 0x80 ∷ [])) (got (zeros 7 ++ (true ∷ true ∷ [])) (source (zeros 7) [] 2 1))
+    ∷ takes 9 (start (0xff ∷ 0x00 ∷ 0x80 ∷ [])) (got (ones 9) (source (zeros 7) [] 3 2))
+    ∷ takes 9 (start (0xff ∷ 0x00 ∷ 0x00 ∷ [])) (got (ones 8 ++ (false ∷ [])) (source (zeros 7) [] 3 2))
+    ∷ takes 9 (start (0xfe ∷ 0x01 ∷ [])) (got (ones 7 ++ (false ∷ false ∷ [])) (source (zeros 6 ++ (true ∷ [])) [] 2 1))
+    ∷ takes 9 (start (0x00 ∷ 0x00 ∷ [])) (got (zeros 9) (source (zeros 7) [] 2 1))
+    ∷ takes 1 (start (0xff ∷ 0x00 ∷ 0x43 ∷ [])) (got (true ∷ []) (source (ones 7) (0x43 ∷ []) 2 0))
+    ∷ takes 9 (start (0x43 ∷ 0xff ∷ 0x00 ∷ 0x80 ∷ [])) (got (false ∷ true ∷ zeros 4 ++ ones 3) (source (ones 7) (0x80 ∷ []) 3 1))
+    ∷ takes 17 (start (0x43 ∷ 0xff ∷ 0x00 ∷ 0x80 ∷ [])) (got (false ∷ true ∷ zeros 4 ++ ones 11) (source (zeros 7) [] 4 3))
+    ∷ takes 0 (start (0xff ∷ 0x01 ∷ [])) (got [] (source [] (0xff ∷ 0x01 ∷ []) 0 0))
+    ∷ takes 8 (start (0x43 ∷ 0xff ∷ 0x01 ∷ [])) (got (false ∷ true ∷ zeros 4 ++ ones 2) (source [] (0xff ∷ 0x01 ∷ []) 1 0))
+    ∷ takes 9 (start (0x43 ∷ 0xff ∷ 0x01 ∷ [])) (stopped (stop 13 1))
+    ∷ takes 1 (start (0xff ∷ 0x01 ∷ [])) (stopped (stop 13 0))
+    ∷ takes 1 (start (0xff ∷ 0xff ∷ [])) (stopped (stop 13 0))
+    ∷ takes 9 (start (0xff ∷ 0x00 ∷ 0xff ∷ 0x01 ∷ 0x43 ∷ [])) (stopped (stop 13 2))
+    ∷ takes 8 (start (0x43 ∷ 0xff ∷ [])) (got (false ∷ true ∷ zeros 4 ++ ones 2) (source [] (0xff ∷ []) 1 0))
+    ∷ takes 9 (start (0x43 ∷ 0xff ∷ [])) (stopped (stop 12 2))
+    ∷ takes 9 (start (0x43 ∷ [])) (stopped (stop 12 1))
+    ∷ takes 1 (start (0xff ∷ [])) (stopped (stop 12 1))
+    ∷ takes 0 (start []) (got [] (source [] [] 0 0))
+    ∷ takes 1 (start []) (stopped (stop 12 0))
+    ∷ takes 9 (start (0xff ∷ 0x00 ∷ [])) (stopped (stop 12 2))
+    ∷ takes 9 (start (0xff ∷ 0x00 ∷ 0xff ∷ [])) (stopped (stop 12 3))
+    ∷ takes 2 (source (true ∷ false ∷ []) [] 5 3) (got (true ∷ false ∷ []) (source [] [] 5 3))
+    ∷ takes 3 (source (true ∷ false ∷ []) (0x80 ∷ []) 5 3) (got (true ∷ false ∷ true ∷ []) (source (zeros 7) [] 6 5))
     ∷ []
 
 pub bits-taken : map (λ (t : Taking). taking (t .count) (t .from)) takings ≡ map (λ (t : Taking). t .answer) takings
@@ -74,31 +81,31 @@ bits-taken = refl
 -- so many bits behind a number, the highest first: none, 110 alone and behind 1, eight of the byte 43, nine of 01 80; 12 where the data end early
 pub numbers-taken :
     (takeNumber 0 5 (start (0x43 ∷ []))
-    ∷ takeNumber 3 0 (source (true ∷ true ∷ false ∷ []) [] 5)
-    ∷ takeNumber 3 1 (source (true ∷ true ∷ false ∷ []) [] 5)
+    ∷ takeNumber 3 0 (source (true ∷ true ∷ false ∷ []) [] 5 4)
+    ∷ takeNumber 3 1 (source (true ∷ true ∷ false ∷ []) [] 5 4)
     ∷ takeNumber 8 0 (start (0x43 ∷ []))
     ∷ takeNumber 9 0 (start (0x01 ∷ 0x80 ∷ []))
     ∷ takeNumber 9 0 (start (0x43 ∷ []))
     ∷ [])
-    ≡ (got 5 (start (0x43 ∷ [])) ∷ got 6 (source [] [] 5) ∷ got 14 (source [] [] 5) ∷ got 67 (source [] [] 1) ∷ got 3 (source (zeros 7) [] 2) ∷ stopped (stop 12) ∷ [])
+    ≡ (got 5 (start (0x43 ∷ [])) ∷ got 6 (source [] [] 5 4) ∷ got 14 (source [] [] 5 4) ∷ got 67 (source [] [] 1 0) ∷ got 3 (source (zeros 7) [] 2 1) ∷ stopped (stop 12 1) ∷ [])
 unfolding digits opened afterFF nextByte takeFrom takeBit takeNumber
 numbers-taken = refl
 
 -- ---- padding
 
 -- "After the last block the unread bits of the byte must be ones and no byte may follow."
-pub paddings : map onlyPadding (source [] [] 3 ∷ source (ones 1) [] 3 ∷ source (ones 7) [] 3 ∷ []) ≡ replicate 3 true
+pub paddings : map onlyPadding (source [] [] 3 2 ∷ source (ones 1) [] 3 2 ∷ source (ones 7) [] 3 2 ∷ []) ≡ replicate 3 true
 unfolding every onlyPadding
 paddings = refl
 
 -- a bit that is 0: the only one, the first, the last; a byte left, of zeros or of ones
 pub no-paddings : map onlyPadding (
-    source (zeros 1) [] 3
-    ∷ source (false ∷ ones 6) [] 3
-    ∷ source (ones 6 ++ zeros 1) [] 3
-    ∷ source [] (0x00 ∷ []) 3
-    ∷ source [] (0xff ∷ []) 3
-    ∷ source (ones 2) (0xff ∷ []) 3
+    source (zeros 1) [] 3 2
+    ∷ source (false ∷ ones 6) [] 3 2
+    ∷ source (ones 6 ++ zeros 1) [] 3 2
+    ∷ source [] (0x00 ∷ []) 3 2
+    ∷ source [] (0xff ∷ []) 3 2
+    ∷ source (ones 2) (0xff ∷ []) 3 2
     ∷ [])
     ≡ replicate 6 false
 unfolding every onlyPadding

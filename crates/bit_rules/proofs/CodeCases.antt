@@ -8,6 +8,7 @@ use Rattle.laws.specs.Index.{every, tab}
 use Rattle.laws.specs.First.{firstFail, orHere}
 use Rattle.laws.specs.declared.Found.the-variants.{At, Nothing}
 use Rattle.bit_rules.specs.Digits.{digits}
+use Rattle.bit_rules.specs.declared.Stop.{Stop}
 use Rattle.bit_rules.specs.Source.{Source, source, start, Out, got, stopped, stop, opened, afterFF, nextByte, takeFrom, takeBit}
 use Rattle.bit_rules.specs.Table.{Table, table, codeCount, kraft, holds, distinct, goodTable}
 use Rattle.bit_rules.specs.Read.{codeFrom, takeCode}
@@ -74,7 +75,7 @@ abbrev ones : ℕ → List Bool
 ones n = replicate n true
 
 abbrev bits : List Bool → Source
-bits pending = source pending [] 9
+bits pending = source pending [] 9 8
 
 -- "codes assigned by T.81 Annex C": 00, 01, 10 of T; 10 and 110 of the staircase; 01, 100, 101, 110 of two lengths; 0, 100, 101 where a length is passed over; and no more bits are taken
 abbrev readings : List (Table × Source × Out ℕ)
@@ -91,7 +92,7 @@ readings =
     ∷ (passedOver, bits (false ∷ []), got 11 (bits []))
     ∷ (passedOver, bits (true ∷ false ∷ false ∷ []), got 12 (bits []))
     ∷ (passedOver, bits (true ∷ false ∷ true ∷ []), got 13 (bits []))
-    ∷ (staircase, start (0xff ∷ 0x00 ∷ 0xfe ∷ 0x43 ∷ []), got 15 (source [] (0x43 ∷ []) 3))
+    ∷ (staircase, start (0xff ∷ 0x00 ∷ 0xfe ∷ 0x43 ∷ []), got 15 (source [] (0x43 ∷ []) 3 2))
     ∷ []
 
 pub codes-read : map (λ (r : Table × Source × Out ℕ). takeCode (r .0) (r .1)) readings ≡ map (λ (r : Table × Source × Out ℕ). r .2) readings
@@ -99,18 +100,21 @@ unfolding tab digits opened afterFF nextByte takeFrom takeBit codeFrom takeCode
 codes-read = refl
 
 -- 14: "16 bits and no code"; fifteen, or an end or an FF 01 before the sixteenth, give 12 or 13, even where no code can match any more
-abbrev stops : List (Source × ℕ)
+-- "that offset of the last bit asked for": of the byte of the sixteenth bit, which is the FF and not its 00; where the bits end, the byte behind them
+abbrev stops : List (Source × Stop)
 stops =
-    (bits (ones 16), 14)
-    ∷ (bits (ones 17), 14)
-    ∷ (start (0xff ∷ 0x00 ∷ 0xff ∷ 0x00 ∷ []), 14)
-    ∷ (bits (ones 15), 12)
-    ∷ (start (0xff ∷ 0x00 ∷ []), 12)
-    ∷ (start (0xff ∷ 0x00 ∷ 0xff ∷ 0x01 ∷ []), 13)
-    ∷ (start [], 12)
+    (bits (ones 16), stop 14 8)
+    ∷ (bits (ones 17), stop 14 8)
+    ∷ (start (0xff ∷ 0x00 ∷ 0xff ∷ 0x00 ∷ []), stop 14 2)
+    ∷ (start (0xff ∷ 0x00 ∷ 0xfe ∷ 0x43 ∷ []), stop 14 2)
+    ∷ (start (0xc0 ∷ 0x43 ∷ 0x43 ∷ []), stop 14 1)
+    ∷ (bits (ones 15), stop 12 9)
+    ∷ (start (0xff ∷ 0x00 ∷ []), stop 12 2)
+    ∷ (start (0xff ∷ 0x00 ∷ 0xff ∷ 0x01 ∷ []), stop 13 2)
+    ∷ (start [], stop 12 0)
     ∷ []
 
-pub codes-not-read : map (λ (r : Source × ℕ). takeCode T (r .0)) stops ≡ map (λ (r : Source × ℕ). stopped (stop (r .1))) stops
+pub codes-not-read : map (λ (r : Source × Stop). takeCode T (r .0)) stops ≡ map (λ (r : Source × Stop). stopped (r .1)) stops
 unfolding digits opened afterFF nextByte takeFrom takeBit codeFrom takeCode
 codes-not-read = refl
 

@@ -16,5 +16,6 @@ _>>=_ m f = λ s. andThen f (m s)
 abbrev pub done : {A : Type 0} → A → Reader A
 done a = λ s. got a s
 
+-- B8: a refusal has "that offset of the last bit asked for"
 abbrev pub fail : {A : Type 0} → ℕ → Reader A
-fail number = λ s. stopped (stop number)
+fail number = λ s. stopped (stop number (s .last))

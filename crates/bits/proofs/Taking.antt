@@ -50,19 +50,19 @@ highs-digits byte h = same-list (highs 8 byte) (digits 8 byte) (each 256 (λ v. 
 
 -- ---- a bit of the byte in hand
 
-held-bit : (bytes : List ℕ) (at n byte : ℕ) → 0 < n → takenOf bytes (topOf at (n - 1) byte) ≡ takeFrom (highs n byte) (drop at bytes) at
+held-bit : (bytes : List ℕ) (at n byte last : ℕ) → 0 < n → takenOf bytes (topOf at (n - 1) byte last) ≡ takeFrom (highs n byte) (drop at bytes) at last
 unfolding takenOf topOf takeFrom highs sourceOf
-held-bit bytes at zero byte h = absurd (omega arith)
-held-bit bytes at (suc n) byte h = rw sub-one
+held-bit bytes at zero byte last h = absurd (omega arith)
+held-bit bytes at (suc n) byte last h = rw sub-one
 
-pub held : (bytes : List ℕ) (c : Cursor) → 0 < c .left → takenOf bytes (topOf (c .at) (c .left - 1) (c .byte)) ≡ takeBit (sourceOf bytes c)
+pub held : (bytes : List ℕ) (c : Cursor) → 0 < c .left → takenOf bytes (topOf (c .at) (c .left - 1) (c .byte) (c .last)) ≡ takeBit (sourceOf bytes c)
 unfolding takeBit sourceOf
-held bytes c h = held-bit bytes (c .at) (c .left) (c .byte) h
+held bytes c h = held-bit bytes (c .at) (c .left) (c .byte) (c .last) h
 
 -- the first bit of a byte
-first-bit : (bytes : List ℕ) (at byte : ℕ) → byte < 256 → takenOf bytes (topOf at 7 byte) ≡ opened byte (drop at bytes) at
+first-bit : (bytes : List ℕ) (at byte offset : ℕ) → byte < 256 → takenOf bytes (topOf at 7 byte offset) ≡ opened offset byte (drop at bytes) at
 unfolding takenOf topOf opened highs sourceOf digits
-first-bit bytes at byte h = let e = highs-digits byte h in cc
+first-bit bytes at byte offset h = let e = highs-digits byte h in cc
 
 -- ---- none is in hand, and a byte is read
 module _ (bytes : List ℕ) (c : Cursor) (empty : c .left ≤ 0) where
@@ -70,7 +70,7 @@ module _ (bytes : List ℕ) (c : Cursor) (empty : c .left ≤ 0) where
   unfolding takeBit sourceOf highs takeFrom
   next = let e : c .left ≡ 0 = omega arith in rw e
 
-  pub at-end : length bytes ≤ c .at → stopped (stop 12) ≡ takeBit (sourceOf bytes c)
+  pub at-end : length bytes ≤ c .at → stopped (stop 12 (c .at)) ≡ takeBit (sourceOf bytes c)
   unfolding nextByte
   at-end h = sym (next ∙ rw (drop-of-length-le bytes h))
 
@@ -78,16 +78,16 @@ module _ (bytes : List ℕ) (c : Cursor) (empty : c .left ≤ 0) where
     here : takeBit (sourceOf bytes c) ≡ nextByte (getD bytes (c .at) 0 ∷ drop (c .at + 1) bytes) (c .at)
     here = next ∙ rw (add-one, ← drop-cons bytes (c .at) 0)
 
-    pub plain : getD bytes (c .at) 0 < 256 → (getD bytes (c .at) 0 ≡ 255 → ⊥) → takenOf bytes (topOf (c .at + 1) 7 (getD bytes (c .at) 0)) ≡ takeBit (sourceOf bytes c)
+    pub plain : getD bytes (c .at) 0 < 256 → (getD bytes (c .at) 0 ≡ 255 → ⊥) → takenOf bytes (topOf (c .at + 1) 7 (getD bytes (c .at) 0) (c .at)) ≡ takeBit (sourceOf bytes c)
     unfolding nextByte
-    plain small ne = first-bit bytes (c .at + 1) (getD bytes (c .at) 0) small ∙ sym (here ∙ rw (ne-eqb _ _ ne))
+    plain small ne = first-bit bytes (c .at + 1) (getD bytes (c .at) 0) (c .at) small ∙ sym (here ∙ rw (ne-eqb _ _ ne))
 
     module _ (ff : getD bytes (c .at) 0 ≡ 255) where
       escaped : takeBit (sourceOf bytes c) ≡ afterFF (drop (c .at + 1) bytes) (c .at)
       unfolding nextByte
       escaped = here ∙ rw (eq-eqb _ _ ff)
 
-      pub ff-end : length bytes ≤ c .at + 1 → stopped (stop 12) ≡ takeBit (sourceOf bytes c)
+      pub ff-end : length bytes ≤ c .at + 1 → stopped (stop 12 (c .at + 1)) ≡ takeBit (sourceOf bytes c)
       unfolding afterFF
       ff-end h = sym (escaped ∙ rw (drop-of-length-le bytes h))
 
@@ -95,13 +95,13 @@ module _ (bytes : List ℕ) (c : Cursor) (empty : c .left ≤ 0) where
         pair : takeBit (sourceOf bytes c) ≡ afterFF (getD bytes (c .at + 1) 0 ∷ drop (c .at + 2) bytes) (c .at)
         pair = let e : suc (c .at + 1) ≡ c .at + 2 = omega arith in escaped ∙ rw (drop-cons bytes (c .at + 1) 0, e)
 
-        pub ff-marker : (getD bytes (c .at + 1) 0 ≡ 0 → ⊥) → stopped (stop 13) ≡ takeBit (sourceOf bytes c)
+        pub ff-marker : (getD bytes (c .at + 1) 0 ≡ 0 → ⊥) → stopped (stop 13 (c .at)) ≡ takeBit (sourceOf bytes c)
         unfolding afterFF
         ff-marker ne = let e : getD bytes (c .at + 1) 0 ≡ suc (getD bytes (c .at + 1) 0 - 1) = omega arith in sym (pair ∙ rw e)
 
-        pub ff-zero : getD bytes (c .at + 1) 0 ≡ 0 → takenOf bytes (topOf (c .at + 2) 7 255) ≡ takeBit (sourceOf bytes c)
+        pub ff-zero : getD bytes (c .at + 1) 0 ≡ 0 → takenOf bytes (topOf (c .at + 2) 7 255 (c .at)) ≡ takeBit (sourceOf bytes c)
         unfolding afterFF
-        ff-zero z = first-bit bytes (c .at + 2) 255 (omega arith) ∙ sym (pair ∙ rw z)
+        ff-zero z = first-bit bytes (c .at + 2) 255 (c .at) (omega arith) ∙ sym (pair ∙ rw z)
 
 -- ---- the padding
 

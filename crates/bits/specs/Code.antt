@@ -18,11 +18,11 @@ highs (suc n) byte = eqb (byte / 128) 1 ∷ highs n (byte % 128 * 2)
 
 -- any cursor stands for a source
 unfoldable pub sourceOf : List ℕ → Cursor → Source
-sourceOf bytes c = source (highs (c .left) (c .byte)) (drop (c .at) bytes) (c .at)
+sourceOf bytes c = source (highs (c .left) (c .byte)) (drop (c .at) bytes) (c .at) (c .last)
 
 -- nothing was read
 abbrev pub unread : Cursor
-unread = record { at = 0; left = 0; byte = 0 }
+unread = record { at = 0; left = 0; byte = 0; last = 0 }
 
 -- N15: what the code's answer stands for
 unfoldable pub takenOf : List ℕ → Taken → Out Bool
@@ -30,13 +30,13 @@ takenOf bytes (Bit b c) = got b (sourceOf bytes c)
 takenOf bytes (Stopped x) = stopped x
 
 -- the highest bit of a byte, and the byte moved up by one
-unfoldable pub topOf : ℕ → ℕ → ℕ → Taken
-topOf at left byte = Bit (eqb (byte / 128) 1) (record { at = at; left = left; byte = byte % 128 * 2 })
+unfoldable pub topOf : ℕ → ℕ → ℕ → ℕ → Taken
+topOf at left byte last = Bit (eqb (byte / 128) 1) (record { at = at; left = left; byte = byte % 128 * 2; last = last })
 
 -- the reader that holds these data, at this cursor
 abbrev pub readerAt : RefT (List ℕ) → Cursor → BitReader
-readerAt bytes c = record { «data» = bytes; at = c .at; left = c .left; byte = c .byte }
+readerAt bytes c = record { «data» = bytes; at = c .at; left = c .left; byte = c .byte; last = c .last }
 
 -- the cursor of a reader: with its data it stands for a source, by `sourceOf`
 abbrev pub cursorOf : BitReader → Cursor
-cursorOf r = record { at = r .at; left = r .left; byte = r .byte }
+cursorOf r = record { at = r .at; left = r .left; byte = r .byte; last = r .last }

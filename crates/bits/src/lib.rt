@@ -1,4 +1,4 @@
-// Bits out of coded bytes, highest bit first, with 00 after FF (docs/RULES.md, B1 to B6).
+// Bits out of coded bytes, highest bit first, with 00 after FF (docs/RULES.md, B1 to B6, B8).
 pub mod reader;
 
 use bit_rules::Stop;
@@ -7,14 +7,15 @@ ghost use Rattle.laws.specs.Index.{every};
 ghost use Rattle.bit_rules.specs.Source.{takeBit, onlyPadding};
 ghost use Rattle.bits.specs.Code.{sourceOf, takenOf, topOf, highs};
 
-// Bytes read so far, and the unread bits of the last one: `left` of them, the highest of `byte`.
+// Bytes read so far, the unread bits of the last one (`left` of them, the highest of `byte`), and the offset of the byte that the last bit came from.
 pub struct Cursor {
     pub at: usize,
     pub left: u8,
     pub byte: u8,
+    pub last: usize,
 }
 
-// A bit and what is left, or why there is none.
+// A bit and what is left, with the offset of its byte; or why there is none, with the offset of the byte that was missing or broken.
 pub enum Taken {
     Bit(bool, Cursor),
     Stopped(Stop),
@@ -27,8 +28,8 @@ const DATA_END: u32 = 12;
 const BARE_FF: u32 = 13;
 
 // The highest bit of a byte, and the byte moved up by one.
-fn top(at: usize, left: u8, byte: u8) -> Taken
-    ensures { λ r. ⌜ r ≡ topOf at left byte ⌝ }
+fn top(at: usize, left: u8, byte: u8, last: usize) -> Taken
+    ensures { λ r. ⌜ r ≡ topOf at left byte last ⌝ }
 {
     Taken::Bit(
         byte >> 7 == 1,
@@ -36,6 +37,7 @@ fn top(at: usize, left: u8, byte: u8) -> Taken
             at,
             left,
             byte: (byte & 127) << 1,
+            last,
         },
     )
 }
@@ -47,22 +49,31 @@ fn take_bit(data: &[u8], c: Cursor) -> Taken
     let at = c.at;
     let left = c.left;
     if 0 < left {
-        return top(at, left - 1, c.byte);
+        return top(at, left - 1, c.byte, c.last);
     }
     if data.len() <= at {
-        return Taken::Stopped(Stop { number: DATA_END });
+        return Taken::Stopped(Stop {
+            number: DATA_END,
+            offset: at,
+        });
     }
     let b = data[at];
     if b != 255 {
-        return top(at + 1, 7, b);
+        return top(at + 1, 7, b, at);
     }
     if data.len() <= at + 1 {
-        return Taken::Stopped(Stop { number: DATA_END });
+        return Taken::Stopped(Stop {
+            number: DATA_END,
+            offset: at + 1,
+        });
     }
     if data[at + 1] != 0 {
-        return Taken::Stopped(Stop { number: BARE_FF });
+        return Taken::Stopped(Stop {
+            number: BARE_FF,
+            offset: at,
+        });
     }
-    top(at + 2, 7, 255)
+    top(at + 2, 7, 255, at)
 }
 
 // Whether the unread bits of the byte in hand are all ones.

@@ -14,6 +14,7 @@ pub struct BitReader<'a> {
     pub at: usize,
     pub left: u8,
     pub byte: u8,
+    pub last: usize,
 }
 
 // The next bit, and the cursor behind it.
@@ -26,6 +27,7 @@ pub fn next_bit<'a>(r: BitReader<'a>) -> Taken
             at: r.at,
             left: r.left,
             byte: r.byte,
+            last: r.last,
         },
     )
 }
@@ -40,6 +42,7 @@ pub fn only_padding_left<'a>(r: BitReader<'a>) -> bool
             at: r.at,
             left: r.left,
             byte: r.byte,
+            last: r.last,
         },
     )
 }
@@ -60,6 +63,7 @@ pub fn bit_at(data: &[u8], c: Cursor) -> Taken
         at: c.at,
         left: c.left,
         byte: c.byte,
+        last: c.last,
     })
 }
 
@@ -78,6 +82,7 @@ pub fn end_at(data: &[u8], c: Cursor) -> End
         at: c.at,
         left: c.left,
         byte: c.byte,
+        last: c.last,
     };
     End {
         padding: only_padding_left(r),

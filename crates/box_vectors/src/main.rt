@@ -3,14 +3,15 @@ use answers::Answer;
 use test_rules::Finding;
 
 // What a call for C answered.
-fn called(number: u32, place: u64) -> Answer {
+fn called(number: u32, place: u64, second: u64) -> Answer {
     Answer {
         number,
         place: place as usize,
+        second: second as usize,
     }
 }
 
-// A record: group, type, instance, room, the file, and the number, place and bytes expected.
+// A record: group, type, instance, room, the file, and the number, place and bytes expected. The second place is 0 in each answer of this call.
 fn boxed(bytes: &[u8], at: usize, told: usize, output: &mut [u8]) -> bool {
     let end = bytes.len();
     let kind = records::number_at(bytes, records::past(end, at, 4)) as u32;
@@ -20,10 +21,18 @@ fn boxed(bytes: &[u8], at: usize, told: usize, output: &mut [u8]) -> bool {
     let place = records::number_at(bytes, records::past(end, told, 4));
     let expected = records::lent(bytes, records::past(end, told, 8));
     let mut at_place = 99u64;
-    let answered = reader_c::xt_box_bytes(file, kind, instance, output, &mut at_place);
-    let a = called(answered, at_place);
+    let mut at_second = 99u64;
+    let answered = reader_c::xt_box_bytes(
+        file,
+        kind,
+        instance,
+        output,
+        &mut at_place,
+        &mut at_second,
+    );
+    let a = called(answered, at_place, at_second);
     let wrong = tallies::first_wrong_byte(output, expected, number);
-    tallies::right(a, number, place, wrong)
+    tallies::right(a, number, place, 0, wrong)
 }
 
 fn run_record(bytes: &[u8], at: usize) -> Finding {

@@ -1,4 +1,4 @@
-// Runs the cases of tools/vectors/calls.py through the calls for C themselves, and writes number, place and the whole destination, a case a line:
+// Runs the cases of tools/vectors/calls.py through the calls for C themselves, and writes number, place, second place and the whole destination, a case a line:
 // the merge in all its modes, then transforms, then what previews owe.
 ghost use Prim.Native.Nat.{_<_, _≤_};
 
@@ -53,9 +53,10 @@ fn write_number(n: u64) {
     io::write_all(1, b" ");
 }
 
-fn write_samples(number: u32, place: u64, destination: &[u16]) {
+fn write_samples(number: u32, place: u64, second: u64, destination: &[u16]) {
     write_number(number as u64);
     write_number(place);
+    write_number(second);
     let mut i = 0;
     while i < destination.len() {
         write_number(destination[i] as u64);
@@ -70,9 +71,10 @@ fn lifted(v: i32) -> u64 {
     w as u64
 }
 
-fn write_values(number: u32, place: u64, destination: &[i32]) {
+fn write_values(number: u32, place: u64, second: u64, destination: &[i32]) {
     write_number(number as u64);
     write_number(place);
+    write_number(second);
     let mut i = 0;
     while i < destination.len() {
         write_number(lifted(destination[i]));
@@ -81,9 +83,10 @@ fn write_values(number: u32, place: u64, destination: &[i32]) {
     io::write_all(1, b"\n");
 }
 
-fn write_numbers(number: u32, place: u64, destination: &[u32]) {
+fn write_numbers(number: u32, place: u64, second: u64, destination: &[u32]) {
     write_number(number as u64);
     write_number(place);
+    write_number(second);
     let mut i = 0;
     while i < destination.len() {
         write_number(destination[i] as u64);
@@ -103,6 +106,7 @@ fn call_merge(
     destination: &mut [u16],
 ) {
     let mut place = 99u64;
+    let mut second = 99u64;
     let r = reader_c::xt_merge(
         set(bytes, at, 0),
         set(bytes, at, 1),
@@ -120,8 +124,9 @@ fn call_merge(
         matrix,
         destination,
         &mut place,
+        &mut second,
     );
-    write_samples(r, place, destination);
+    write_samples(r, place, second, destination);
 }
 
 // A case whose lists stand one behind the other; where the next case stands.
@@ -180,11 +185,12 @@ fn transformed(
 ) -> usize {
     let end = bytes.len();
     let first = records::past(end, at, 20);
-    let second = records::past(end, first, 4 * values.len());
-    let next = records::past(end, second, 2 * quantisers.len());
+    let behind = records::past(end, first, 4 * values.len());
+    let next = records::past(end, behind, 2 * quantisers.len());
     records::values_at(bytes, first, values);
-    records::sizes_at(bytes, second, quantisers);
+    records::sizes_at(bytes, behind, quantisers);
     let mut place = 99u64;
+    let mut second = 99u64;
     let r = reader_c::xt_inverse_transform(
         set(bytes, at, 0),
         number(bytes, at, 1),
@@ -192,8 +198,9 @@ fn transformed(
         quantisers,
         destination,
         &mut place,
+        &mut second,
     );
-    write_values(r, place, destination);
+    write_values(r, place, second, destination);
     next
 }
 
@@ -220,8 +227,15 @@ fn owed(bytes: &[u8], at: usize, quantisers: &mut [u16], destination: &mut [u32]
     let next = records::past(end, first, 2 * quantisers.len());
     records::sizes_at(bytes, first, quantisers);
     let mut place = 99u64;
-    let r = reader_c::xt_preview_owes(set(bytes, at, 0), quantisers, destination, &mut place);
-    write_numbers(r, place, destination);
+    let mut second = 99u64;
+    let r = reader_c::xt_preview_owes(
+        set(bytes, at, 0),
+        quantisers,
+        destination,
+        &mut place,
+        &mut second,
+    );
+    write_numbers(r, place, second, destination);
     next
 }
 

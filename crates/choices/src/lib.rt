@@ -135,7 +135,11 @@ pub fn merge_or_not(
     let number = setting_number(named, s, pixels, matrix);
     if number != 0 {
         answers::clear_u16(destination);
-        return answers::Answer { number, place: 0 };
+        return answers::Answer {
+            number,
+            place: 0,
+            second: 0,
+        };
     }
     merge::merge(s, pixels, base, residual, table, destination)
 }

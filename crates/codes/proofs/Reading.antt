@@ -34,7 +34,7 @@ module _ {T : Table} {s₀ s : Source} {over place l : ℕ} (h : Here T s₀ s o
   here-small g k = omega (arith, h .small, pow-mono {i = l} {j = 15} (omega (arith, good T g .sixteen)))
 
   -- sixteen bits and no code
-  pub here-none : length (T .counts) ≤ l → stopped (stop 14) ≡ takeCode T s₀
+  pub here-none : length (T .counts) ≤ l → stopped (stop 14 (s .last)) ≡ takeCode T s₀
   unfolding codeFrom
   here-none k = rw (drop-of-length-le (T .counts) k) at (h .same)
 

@@ -128,5 +128,8 @@ pub fn take_code(counts: &[u8], values: &[u8], data: &[u8], c: Cursor) -> Coded
         place += n;
         l += 1;
     }
-    Coded::Stopped(Stop { number: 14 })
+    Coded::Stopped(Stop {
+        number: 14,
+        offset: cursor.last,
+    })
 }

@@ -9,7 +9,7 @@ use lib.IntN.{ℤ, pos}
 use lib.ListN.{length, getD, take, drop, set, length-set, drop-of-length-le}
 use lib.Seq.{drop-cons, drop-set-lt, take-suc-set}
 use Rattle.laws.proofs.Parts.{drop-later}
-use Rattle.answers.specs.Verdict.{refusal}
+use Rattle.answers.specs.Verdict.{refusalAt}
 use Rattle.bit_rules.specs.Source.{start, got, stopped, takeBit}
 use Rattle.bits.specs.Code.{unread, sourceOf}
 use Rattle.bits.proofs.Taking.{start-source}
@@ -46,7 +46,7 @@ module _ {bytes : List ℕ} {values before now : List ℤ} {c : Cursor} {i : ℕ
     next : drop i values ≡ getD values i (pos 0) ∷ drop (suc i) values
     next = drop-cons values i (pos 0) h
 
-    pub now-stopped : {x : Stop} → takeBit (sourceOf bytes c) ≡ stopped x → Ran bytes (length values) (dcBlocks 0 values (start bytes)) before now (Refused (refusal (x .number) i))
+    pub now-stopped : {x : Stop} → takeBit (sourceOf bytes c) ≡ stopped x → Ran bytes (length values) (dcBlocks 0 values (start bytes)) before now (Refused (refusalAt (x .number) i (x .offset)))
     unfolding planeOf dcBlocks onto
     now-stopped e = record {
       same = rw (next, e) at (a .same);

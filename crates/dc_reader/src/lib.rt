@@ -35,6 +35,7 @@ fn read_dc_blocks(data: &[u8], values: &[i32], destination: &mut [i32]) -> Block
         at: 0,
         left: 0,
         byte: 0,
+        last: 0,
     };
     let mut i = 0;
     while i < values.len() {
@@ -47,6 +48,7 @@ fn read_dc_blocks(data: &[u8], values: &[i32], destination: &mut [i32]) -> Block
             Taken::Stopped(x) => return Blocks::Refused(Refusal {
                 number: x.number,
                 place: i,
+                second: x.offset,
             }),
         }
         i += 1;

@@ -7,7 +7,7 @@ use Prim.Native.Nat.{ℕ, suc}
 use native.Mathlib.Omega.{arith}
 use lib.IntN.{ℤ}
 use lib.ListN.{length}
-use Rattle.answers.specs.Verdict.{refusal}
+use Rattle.answers.specs.Verdict.{refusalAt}
 use Rattle.answers.specs.declared.Refusal.{Refusal}
 use Rattle.bit_rules.specs.Source.{Source, Out, got, stopped, takeBit, onlyPadding}
 use Rattle.bit_rules.specs.Reader.{andThen, done}
@@ -34,8 +34,8 @@ over-halted e = let z : _≡_ {A = ℕ} 0 1 = cc in omega arith
 pub over-one : {s t : Source} → over s ≡ over t → s ≡ t
 over-one e = cc
 
-pub halted-one : {r : Refusal} {n p : ℕ} → halted r ≡ halted (refusal n p) → (n ≡ r .number) × (p ≡ r .place)
-halted-one {r} {n} {p} e = let same : r ≡ refusal n p = cc in rw same (refl, refl)
+pub halted-one : {r : Refusal} {n p q : ℕ} → halted r ≡ halted (refusalAt n p q) → (n ≡ r .number) × (p ≡ r .place) × (q ≡ r .second)
+halted-one {r} {n} {p} {q} e = let same : r ≡ refusalAt n p q = cc in rw same (refl, refl, refl)
 
 end-onto : (values : List ℤ) (p : Plane) → endOf (onto values p) ≡ endOf p
 unfolding onto
@@ -45,7 +45,7 @@ end-onto values (refusing r) = refl
 -- one block, and how it goes on
 abbrev went : {A : Type 0} → ℕ → (A → Source → End) → Out A → End
 went k f (got o t) = f o t
-went k f (stopped x) = halted (refusal (x .number) k)
+went k f (stopped x) = halted (refusalAt (x .number) k (x .offset))
 
 module _ {A B : Type 0} (one : A → B → List B → Source → Out A) (end : ℕ → A → List B → Source → End)
     (nil : (k : ℕ) (o : A) (s : Source) → end k o [] s ≡ over s)
@@ -55,16 +55,16 @@ module _ {A B : Type 0} (one : A → B → List B → Source → Out A) (end : �
   alike begun = refl
   alike (further {p} {o} {o′} {b} {bs} {s} {t} h e) = sym (cons p o b bs s ∙ ap (went p (λ o′ t. end (suc p) o′ bs t)) e) ∙ alike h
 
-  stopped-at : (bs : List B) (p : ℕ) (o : A) (s : Source) → Behind one o₀ bs₀ s₀ p o bs s → (r : Refusal) → end p o bs s ≡ halted r → StopsAt one o₀ bs₀ s₀ (r .number) (r .place)
+  stopped-at : (bs : List B) (p : ℕ) (o : A) (s : Source) → Behind one o₀ bs₀ s₀ p o bs s → (r : Refusal) → end p o bs s ≡ halted r → StopsAt one o₀ bs₀ s₀ (r .number) (r .place) (r .second)
   stopped-at [] p o s h r e = absurd (over-halted (sym (nil p o s) ∙ e))
   stopped-at (b ∷ bs) p o s h r e = go (λ o′ t. stopped-at bs (suc p) o′ t) (one o b bs s) refl
     where
-      go : ((o′ : A) (t : Source) → Behind one o₀ bs₀ s₀ (suc p) o′ bs t → (r : Refusal) → end (suc p) o′ bs t ≡ halted r → StopsAt one o₀ bs₀ s₀ (r .number) (r .place))
-          → (x : Out A) → one o b bs s ≡ x → StopsAt one o₀ bs₀ s₀ (r .number) (r .place)
+      go : ((o′ : A) (t : Source) → Behind one o₀ bs₀ s₀ (suc p) o′ bs t → (r : Refusal) → end (suc p) o′ bs t ≡ halted r → StopsAt one o₀ bs₀ s₀ (r .number) (r .place) (r .second))
+          → (x : Out A) → one o b bs s ≡ x → StopsAt one o₀ bs₀ s₀ (r .number) (r .place) (r .second)
       go on (got o′ t) q = on o′ t (further h q) r (sym (cons p o b bs s ∙ ap (went p (λ o′ t. end (suc p) o′ bs t)) q) ∙ e)
       go on (stopped x) q =
-          let w : halted (refusal (x .number) p) ≡ halted r = sym (cons p o b bs s ∙ ap (went p (λ o′ t. end (suc p) o′ bs t)) q) ∙ e in
-          let same : refusal (x .number) p ≡ r = cc in
+          let w : halted (refusalAt (x .number) p (x .offset)) ≡ halted r = sym (cons p o b bs s ∙ ap (went p (λ o′ t. end (suc p) o′ bs t)) q) ∙ e in
+          let same : refusalAt (x .number) p (x .offset) ≡ r = cc in
           rw (← same) (record { opened = o; block = b; later = bs; source = s; behind = h; stops = q })
 
   record Whole (s : Source) : Type 0 where
@@ -82,11 +82,11 @@ module _ {A B : Type 0} (one : A → B → List B → Source → Out A) (end : �
 
   -- both ways
 
-  pub stops-at : (r : Refusal) → end 0 o₀ bs₀ s₀ ≡ halted r → StopsAt one o₀ bs₀ s₀ (r .number) (r .place)
+  pub stops-at : (r : Refusal) → end 0 o₀ bs₀ s₀ ≡ halted r → StopsAt one o₀ bs₀ s₀ (r .number) (r .place) (r .second)
   stops-at r e = stopped-at bs₀ 0 o₀ s₀ begun r e
 
-  pub at-stops : (n p : ℕ) → StopsAt one o₀ bs₀ s₀ n p → end 0 o₀ bs₀ s₀ ≡ halted (refusal n p)
-  at-stops n p h =
+  pub at-stops : (n p q : ℕ) → StopsAt one o₀ bs₀ s₀ n p q → end 0 o₀ bs₀ s₀ ≡ halted (refusalAt n p q)
+  at-stops n p q h =
       sym (alike (h .behind)) ∙ (cons p (h .opened) (h .block) (h .later) (h .source) ∙ ap (went p (λ o′ t. end (suc p) o′ (h .later) t)) (h .stops))
 
   pub left-over : (s : Source) → end 0 o₀ bs₀ s₀ ≡ over s → onlyPadding s ≡ false → LeftOver one o₀ bs₀ s₀ (s .seen)
@@ -129,10 +129,10 @@ module _ (values : List ℤ) (s₀ : Source) where
   abbrev dcEnd : ℕ → Unit {0} → List ℤ → Source → End
   dcEnd k u vs s = endOf (dcBlocks k vs s)
 
-  pub dc-stops : (r : Refusal) → endOf (dcBlocks 0 values s₀) ≡ halted r → StopsAt oneDc tt values s₀ (r .number) (r .place)
+  pub dc-stops : (r : Refusal) → endOf (dcBlocks 0 values s₀) ≡ halted r → StopsAt oneDc tt values s₀ (r .number) (r .place) (r .second)
   dc-stops = stops-at oneDc dcEnd dc-nil dc-cons tt values s₀
 
-  pub stops-dc : (n p : ℕ) → StopsAt oneDc tt values s₀ n p → endOf (dcBlocks 0 values s₀) ≡ halted (refusal n p)
+  pub stops-dc : (n p q : ℕ) → StopsAt oneDc tt values s₀ n p q → endOf (dcBlocks 0 values s₀) ≡ halted (refusalAt n p q)
   stops-dc = at-stops oneDc dcEnd dc-nil dc-cons tt values s₀
 
   pub dc-left : (s : Source) → endOf (dcBlocks 0 values s₀) ≡ over s → onlyPadding s ≡ false → LeftOver oneDc tt values s₀ (s .seen)
@@ -145,10 +145,10 @@ module _ (codes : Table) (bs : List (List ℤ)) (s₀ : Source) where
   abbrev acEnd : ℕ → Option Task → List (List ℤ) → Source → End
   acEnd k o later s = endOf (acBlocks codes k o later s)
 
-  pub ac-stops : (r : Refusal) → endOf (acBlocks codes 0 none bs s₀) ≡ halted r → StopsAt (oneAc codes) none bs s₀ (r .number) (r .place)
+  pub ac-stops : (r : Refusal) → endOf (acBlocks codes 0 none bs s₀) ≡ halted r → StopsAt (oneAc codes) none bs s₀ (r .number) (r .place) (r .second)
   ac-stops = stops-at (oneAc codes) acEnd (ac-nil codes) (ac-cons codes) none bs s₀
 
-  pub stops-ac : (n p : ℕ) → StopsAt (oneAc codes) none bs s₀ n p → endOf (acBlocks codes 0 none bs s₀) ≡ halted (refusal n p)
+  pub stops-ac : (n p q : ℕ) → StopsAt (oneAc codes) none bs s₀ n p q → endOf (acBlocks codes 0 none bs s₀) ≡ halted (refusalAt n p q)
   stops-ac = at-stops (oneAc codes) acEnd (ac-nil codes) (ac-cons codes) none bs s₀
 
   pub ac-left : (s : Source) → endOf (acBlocks codes 0 none bs s₀) ≡ over s → onlyPadding s ≡ false → LeftOver (oneAc codes) none bs s₀ (s .seen)

@@ -274,14 +274,14 @@ module _ (s : Setting) (pixels : ℕ) (base residual : List ℤ) (table : List �
 -- ---- no row has the number 0
 
 row-zero : (number : ℕ) (means : ℕ → Type 0) → 0 < number → NoZero (row number means)
-row-zero number means l = record { never = λ p h. let e = h .0 in omega arith }
+row-zero number means l = record { never = λ p q h. let e = h .0 in omega arith }
 
 infixr 5 _and_
 _and_ : {first later : Rows} → NoZero first → NoZero later → NoZero (first then later)
-_and_ f g = record { never = λ p. ⊎-elim (f .never p) (λ h. g .never p (h .1)) }
+_and_ f g = record { never = λ p q. ⊎-elim (f .never p q) (λ h. g .never p q (h .1)) }
 
 rows-zero : (numbers : List ℕ) (means : Rows) → (T (stands 0 numbers) → ⊥) → NoZero (rows numbers means)
-rows-zero numbers means n = record { never = λ p h. n (h .0) }
+rows-zero numbers means n = record { never = λ p q h. n (h .0) }
 
 pub box-zero : (file : List ℕ) (kind instance room : ℕ) → NoZero (boxRows file kind instance room)
 unfolding boxRows packetRows

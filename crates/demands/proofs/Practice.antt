@@ -28,7 +28,7 @@ module _ (kind instance : ℕ) (file file′ : List ℕ) (w : EndsWell file) (w�
       let v : boxBytes file kind instance (length before) ≡ boxBytes file′ kind instance (length before) = same-answer file file′ kind instance (length before) (w ∙ sym w′) h in
       let same = one-outcome ℕ 0 (boxBytes file′ kind instance (length before)) before after after′ answer answer′
       (subst (λ (x : Verdict ℕ). Meets 0 x before after answer) v m) m′ in
-      record { number = ap (λ (a : Answer). a .number) (same .0); place = ap (λ (a : Answer). a .place) (same .0); bytes = same .1 }
+      record { number = ap (λ (a : Answer). a .number) (same .0); place = ap (λ (a : Answer). a .place) (same .0); second = ap (λ (a : Answer). a .second) (same .0); bytes = same .1 }
 
   in-one-order : own kind instance file ≡ own kind instance file′ → AnsweredAlike kind instance file file′
   in-one-order e = in-any-order (subst (Reordered (own kind instance file)) e (self (own kind instance file)))
@@ -53,18 +53,18 @@ practice-holds = refl
 -- ---- the same by the law
 
 -- a call on the live picture, and on the one that lost a packet
-met : Meets 0 (boxBytes live lpts 1 6) dots (0x39 ∷ 0x2E ∷ 0x35 ∷ 0x38 ∷ 0x2E ∷ 0x2E ∷ []) (record { number = 0; place = 4 })
-    × Meets 0 (boxBytes lost lpts 1 6) dots (replicate 6 0) (record { number = 7; place = 1 })
+met : Meets 0 (boxBytes live lpts 1 6) dots (0x39 ∷ 0x2E ∷ 0x35 ∷ 0x38 ∷ 0x2E ∷ 0x2E ∷ []) (record { number = 0; place = 4; second = 0 })
+    × Meets 0 (boxBytes lost lpts 1 6) dots (replicate 6 0) (record { number = 7; place = 1; second = 0 })
 unfolding be16 be32 headAt ones barred tagged packetAt wholeAt sizedAt markedAt stepAt stepsIn stepsFrom begins walk ending packetsIn packets isMine mine
     numbers count least firstTwice missingFrom firstMissing alike agree contents total numbered joinedFrom joined assembled assemble boxBytes
 met = (record { answered = refl; held = refl }, record { answered = refl; held = refl })
 
 -- what a call on one file comes to, a call on another that is answered alike comes to
-still : (file file′ : List ℕ) (number place : ℕ) (left : List ℕ) → Meets 0 (boxBytes file lpts 1 6) dots left (record { number = number; place = place })
+still : (file file′ : List ℕ) (number place : ℕ) (left : List ℕ) → Meets 0 (boxBytes file lpts 1 6) dots left (record { number = number; place = place; second = 0 })
     → AnsweredAlike lpts 1 file file′ → Answers file′ number place left
 still file file′ number place left m alike after answer m′ =
     let s = alike dots left after _ answer m m′ in
-    (sym (s .number), sym (s .place), sym (s .bytes))
+    (sym (s .number), sym (s .place), sym (s .second), sym (s .bytes))
 
 still-live : (file : List ℕ) → AnsweredAlike lpts 1 live file → StillLive file
 still-live file = still live file 0 4 _ (met .0)

@@ -16,7 +16,7 @@ use Rattle.answers.specs.Verdict.{Verdict, given}
 use Rattle.plane_rules.specs.Levels.{downward, climb}
 use Rattle.demands.specs.One.{Rows, stands, row, rows, _then_, Succeeded, Turned, packetRows, boxRows, listRows, dcReadRows, acReadRows, dcWriteRows, acWriteRows, transformRows, previewRows, mergeRows}
 use Rattle.demands.specs.Three.{Both, levelOf}
-use Rattle.demands.specs.Shams.{OneOutcome, OneRefusal, Only, NumbersAre, caseD, AlwaysRefusing, caseE, OnePicture, KeptOnRefusal, PlaneUntouched, FinalAtOnce, DoubledUnread, ShamsRefuted}
+use Rattle.demands.specs.Shams.{OneOutcome, OneRefusal, NoSecond, Only, NumbersAre, caseD, AlwaysRefusing, caseE, OnePicture, KeptOnRefusal, PlaneUntouched, FinalAtOnce, DoubledUnread, ShamsRefuted}
 use Rattle.demands.specs.Cases.{Result, naturals, integers, resultOf, Case, onlyDc, everywhere, whiteboard}
 use Rattle.demands.proofs.Two.{dc-refined, sampled}
 use Rattle.demands.proofs.Cases.{whiteboard-holds}
@@ -27,9 +27,16 @@ one-outcome A nil v before after after′ answer answer′ m m′ = (m .answered
 one-refusal : OneRefusal
 one-refusal A nil table before after after′ answer answer′ h h′ n = go (h .outcome)
   where
-    go : Succeeded before after answer ⊎ Turned nil table before after answer → (answer′ .number ≡ answer .number) × (answer′ .place ≡ answer .place)
+    go : Succeeded before after answer ⊎ Turned nil table before after answer → (answer′ .number ≡ answer .number) × (answer′ .place ≡ answer .place) × (answer′ .second ≡ answer .second)
     go (inl s) = absurd (n (s .well))
-    go (inr t) = h′ .only (answer .number) (answer .place) (t .line)
+    go (inr t) = h′ .only (answer .number) (answer .place) (answer .second) (t .line)
+
+no-second : NoSecond
+no-second A nil table before after answer h n = go (h .outcome)
+  where
+    go : Succeeded before after answer ⊎ Turned nil table before after answer → answer .second ≡ 0
+    go (inl s) = s .second
+    go (inr t) = absurd (t .told n)
 
 -- ---- the numbers of rows
 
@@ -49,14 +56,14 @@ stands-too (x ∷ others) numbers e n h = go (stands-too others numbers (cond-ri
 
 module _ {numbers : List ℕ} where
   row-in : (number : ℕ) (means : ℕ → Type 0) → T (stands number numbers) → Only numbers (row number means)
-  row-in number means t = record { among = λ n p h. rw (h .0) t }
+  row-in number means t = record { among = λ n p q h. rw (h .0) t }
 
   rows-in : (others : List ℕ) (means : Rows) → included others numbers ≡ true → Only numbers (rows others means)
-  rows-in others means e = record { among = λ n p h. stands-too others numbers e n (h .0) }
+  rows-in others means e = record { among = λ n p q h. stands-too others numbers e n (h .0) }
 
   infixr 5 _with_
   _with_ : {first later : Rows} → Only numbers first → Only numbers later → Only numbers (first then later)
-  _with_ f g = record { among = λ n p. ⊎-elim (f .among n p) (λ h. g .among n p (h .1)) }
+  _with_ f g = record { among = λ n p q. ⊎-elim (f .among n p q) (λ h. g .among n p q (h .1)) }
 
 numbers-are : NumbersAre
 unfolding included boxRows packetRows listRows dcReadRows acReadRows dcWriteRows acWriteRows transformRows previewRows mergeRows
@@ -112,15 +119,15 @@ plane-untouched answer h =
 
 -- ---- zeros
 
-twenty : dcReadRows 0 0 [] [] 1 20 0
+twenty : dcReadRows 0 0 [] [] 1 20 0 0
 unfolding dcReadRows every
-twenty = inl (refl, (refl, refl))
+twenty = inl (refl, (refl, refl), refl)
 
 kept-on-refusal : KeptOnRefusal
 kept-on-refusal answer h = go (h .outcome)
   where
     go : Succeeded (pos 7 ∷ []) (pos 7 ∷ []) answer ⊎ Turned (pos 0) (dcReadRows 0 0 [] [] 1) (pos 7 ∷ []) (pos 7 ∷ []) answer → ⊥
-    go (inl s) = let z : _≡_ {A = ℕ} 0 20 = sym (s .well) ∙ h .only 20 0 twenty .0 in omega arith
+    go (inl s) = let z : _≡_ {A = ℕ} 0 20 = sym (s .well) ∙ h .only 20 0 0 twenty .0 in omega arith
     go (inr t) = let z : _≡_ {A = ℕ} 7 0 = ap (λ (l : List ℤ). natAbs (getD l 0 (pos 0))) (t .zeros) in omega arith
 
 -- ---- planes
@@ -142,6 +149,7 @@ pub shams-refuted : ShamsRefuted
 shams-refuted = record {
   outcome = one-outcome;
   refusal = one-refusal;
+  second = no-second;
   numbers = numbers-are;
   refusing = always-refusing;
   picture = one-picture;

@@ -11,7 +11,7 @@ use lib.IntN.{ℤ, pos, negsuc}
 use lib.ListN.{length, take, drop, length-append, length-drop}
 use lib.Seq.{length-take-le}
 use Rattle.laws.proofs.Choices.{by-test, true-false}
-use Rattle.answers.specs.Verdict.{given, refusal, need}
+use Rattle.answers.specs.Verdict.{given, refusalAt, refusal, need}
 use Rattle.answers.specs.declared.Refusal.{Refusal}
 use Rattle.bit_rules.specs.Digits.{bin}
 use Rattle.bit_rules.specs.Source.{Source, Out, got, stopped, takeBit, onlyPadding}
@@ -60,8 +60,8 @@ module _ (P : ℕ → Type 0) (all : ℕ) where
         go (got b t) (inl h) = let d = ap length (h .coming) in (tt, omega (arith, h .seen))
         go (got b t) (inr (inl h)) = let d = ap length (h .coming) in (tt, omega (arith, h .seen))
         go (got b t) (inr (inr h)) = let d = ap length (h .coming) in (tt, omega (arith, h .seen))
-        go (stopped x) (inl h) = rw h p12
-        go (stopped x) (inr h) = rw h p13
+        go (stopped x) (inl h) = rw (h .number) p12
+        go (stopped x) (inr h) = rw (h .number) p13
 
     module _ (p14 : P 14) (p15 : P 15) (p16 : P 16) (p17 : P 17) where
       code-from : (counts values : List ℕ) (so-far : ℕ) (s : Source) → Kept s → Stops Any (codeFrom counts values so-far s)
@@ -155,19 +155,19 @@ module _ (P : ℕ → Type 0) (all : ℕ) where
 module _ {A B : Type 0} (one : A → B → List B → Source → Out A) (o₀ : A) (bs₀ : List B) (s₀ : Source) (room : ℕ) (numbers : List ℕ) (all upto n : ℕ) where
   padded : (values : List ℤ) (s : Source) → length values ≤ room → (onlyPadding s ≡ false → LeftOver one o₀ bs₀ s₀ (s .seen)) → ((q : ℕ) (h : LeftOver one o₀ bs₀ s₀ q) → s ≡ h .source)
       → (b : Bool) → onlyPadding s ≡ b → Judged (row 18 (LeftOver one o₀ bs₀ s₀)) room (need b 18 (s .seen) (given values))
-  padded values s l f g true t = record { kept = gives l; only = λ m q h. absurd (true-false (sym t ∙ (ap onlyPadding (g q (h .1)) ∙ h .1 .more))) }
-  padded values s l f g false t = told-last (refusal 18 (s .seen)) (refl, f t) (λ m q h. (h .0, h .1 .place ∙ ap (λ (u : Source). u .seen) (sym (g q (h .1)))))
+  padded values s l f g true t = record { kept = gives l; only = λ m q o h. absurd (true-false (sym t ∙ (ap onlyPadding (g q (h .1)) ∙ h .1 .more))) }
+  padded values s l f g false t = told-last (refusal 18 (s .seen)) (refl, f t, refl) (λ m q o h. (h .0, h .1 .place ∙ ap (λ (u : Source). u .seen) (sym (g q (h .1))), h .2))
 
   pub closed-judged : (p : Plane) → n ≤ room → Blocks (λ (m : ℕ). T (stands m numbers)) all upto n p
-      → ((r : Refusal) → endOf p ≡ halted r → StopsAt one o₀ bs₀ s₀ (r .number) (r .place))
-      → ((m q : ℕ) → StopsAt one o₀ bs₀ s₀ m q → endOf p ≡ halted (refusal m q))
+      → ((r : Refusal) → endOf p ≡ halted r → StopsAt one o₀ bs₀ s₀ (r .number) (r .place) (r .second))
+      → ((m q o : ℕ) → StopsAt one o₀ bs₀ s₀ m q o → endOf p ≡ halted (refusalAt m q o))
       → ((s : Source) → endOf p ≡ over s → onlyPadding s ≡ false → LeftOver one o₀ bs₀ s₀ (s .seen))
       → ((q : ℕ) (h : LeftOver one o₀ bs₀ s₀ q) → endOf p ≡ over (h .source)) → Judged (rows numbers (StopsAt one o₀ bs₀ s₀) then row 18 (LeftOver one o₀ bs₀ s₀)) room (closed p)
   unfolding closed
   closed-judged (read values s) l h f g f′ g′ =
-      passed (λ m q k. over-halted (g m q (k .1)))
+      passed (λ m q o k. over-halted (g m q o (k .1)))
       (padded values s (omega (arith, h .0)) (f′ s refl) (λ q k. over-one (g′ q k)) (onlyPadding s) refl)
-  closed-judged (refusing r) l h f g f′ g′ = told r (h .0, f r refl) (λ m q k. halted-one (g m q (k .1)))
+  closed-judged (refusing r) l h f g f′ g′ = told r (h .0, f r refl) (λ m q o k. halted-one (g m q o (k .1)))
 
 -- ---- blocks of 63 values
 

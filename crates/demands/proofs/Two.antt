@@ -42,7 +42,7 @@ use Rattle.demands.proofs.One.{list-judged, list-zero, dc-read-judged, 
 
 -- ---- from a verdict to what was written
 
-by-row : {A : Type 0} {table : Rows} {room : ℕ} (r : Refusal) → Keeps {A = A} table room (refused r) → table (r .number) (r .place)
+by-row : {A : Type 0} {table : Rows} {room : ℕ} (r : Refusal) → Keeps {A = A} table room (refused r) → table (r .number) (r .place) (r .second)
 by-row r (refuses t) = t
 
 module _ {A : Type 0} (zero : A) {Right : List A → Type 0} {table : Rows} (none : NoZero table) (before : List A) where
@@ -59,7 +59,7 @@ module _ {A : Type 0} (zero : A) {Right : List A → Type 0} {table : Rows} (non
       same zs e = cc
   exactly (refused r) j f g after answer m =
       record {
-        sound = λ e. absurd (none .never (r .place) (subst (λ (n : ℕ). table n (r .place)) (sym (ap (λ (a : Answer). a .number) (m .answered)) ∙ e) (by-row r (j .kept))));
+        sound = λ e. absurd (none .never (r .place) (r .second) (subst (λ (n : ℕ). table n (r .place) (r .second)) (sym (ap (λ (a : Answer). a .number) (m .answered)) ∙ e) (by-row r (j .kept))));
         complete = λ zs q. absurd (refused-given (g zs q));
       }
 

@@ -9,7 +9,7 @@ use lib.Dec.{eqb, leb, ltb}
 use lib.ListN.{length, getD, drop}
 use Rattle.laws.specs.declared.Found.the-variants.{At}
 use Rattle.laws.proofs.Choices.{by-test, true-false}
-use Rattle.answers.specs.Verdict.{refusal}
+use Rattle.answers.specs.Verdict.{refusalAt, refusal}
 use Rattle.answers.specs.declared.Refusal.{Refusal}
 use Rattle.answers.specs.declared.Outcome.{Outcome}
 use Rattle.answers.specs.declared.Outcome.the-variants.{Given, Refused}
@@ -64,32 +64,32 @@ module _ (file : List ℕ) (at : ℕ) where
 
 -- ---- the walk
 
-refused-one : {r : Refusal} {n p : ℕ} → Refused r ≡ Refused (refusal n p) → (n ≡ r .number) × (p ≡ r .place)
-refused-one {r} {n} {p} e = let same : r ≡ refusal n p = cc in rw same (refl, refl)
+refused-one : {r : Refusal} {n p q : ℕ} → Refused r ≡ Refused (refusalAt n p q) → (n ≡ r .number) × (p ≡ r .place) × (q ≡ r .second)
+refused-one {r} {n} {p} {q} e = let same : r ≡ refusalAt n p q = cc in rw same (refl, refl, refl)
 
 module _ (file : List ℕ) where
   abbrev walkRows : Rows
   walkRows = rows (2 ∷ 3 ∷ []) (brokenAt file)
 
-  broken-row : (at : ℕ) → Reached file at → (f : Refusal) → stepAt file at ≡ Broken f → (f ≡ refusal 2 at) ⊎ (f ≡ refusal 3 at) → walkRows (f .number) (f .place)
-  broken-row at reached f q (inl h) = subst (λ (x : Refusal). walkRows (x .number) (x .place)) (sym h) (tt, (reached, q ∙ ap Broken h))
-  broken-row at reached f q (inr h) = subst (λ (x : Refusal). walkRows (x .number) (x .place)) (sym h) (tt, (reached, q ∙ ap Broken h))
+  broken-row : (at : ℕ) → Reached file at → (f : Refusal) → stepAt file at ≡ Broken f → (f ≡ refusal 2 at) ⊎ (f ≡ refusal 3 at) → walkRows (f .number) (f .place) (f .second)
+  broken-row at reached f q (inl h) = subst (λ (x : Refusal). walkRows (x .number) (x .place) (x .second)) (sym h) (tt, (reached, q ∙ ap Broken h, refl))
+  broken-row at reached f q (inr h) = subst (λ (x : Refusal). walkRows (x .number) (x .place) (x .second)) (sym h) (tt, (reached, q ∙ ap Broken h, refl))
 
   -- one step, and what is known of the walk behind it
   step-rows : (at : ℕ) → Reached file at → (r : Refusal) → ending (stepsFrom file at) ≡ Refused r
-      → ((next : ℕ) → at < next → next ≤ length file → Reached file next → ending (stepsFrom file next) ≡ Refused r → walkRows (r .number) (r .place))
-      → (s : Step) → stepAt file at ≡ s → walkRows (r .number) (r .place)
+      → ((next : ℕ) → at < next → next ≤ length file → Reached file next → ending (stepsFrom file next) ≡ Refused r → walkRows (r .number) (r .place) (r .second))
+      → (s : Step) → stepAt file at ≡ s → walkRows (r .number) (r .place) (r .second)
   step-rows at reached r e onward End q = absurd (never-given (sym e ∙ ending-end file at q))
   step-rows at reached r e onward (Broken f) q =
       let w : Refused f ≡ Refused r = sym (ending-broken file at q) ∙ e in
       let same : f ≡ r = cc in
-      subst (λ (x : Refusal). walkRows (x .number) (x .place)) same (broken-row at reached f q (subst (BrokenIs at) q (broken-step file at)))
+      subst (λ (x : Refusal). walkRows (x .number) (x .place) (x .second)) same (broken-row at reached f q (subst (BrokenIs at) q (broken-step file at)))
   step-rows at reached r e onward (Skip next) q = let h = forward-skip file at q in onward next (h .0) (h .1) (skipped reached q) (sym (ending-skip file at q) ∙ e)
   step-rows at reached r e onward (Meet head start len next) q =
       let h = forward-meet file at q in
       onward next (omega (arith, h .0, h .1)) (h .2) (met reached q) (sym (ending-meet file at q) ∙ e)
 
-  walk-rows : (k at : ℕ) → length file ≤ at + k → Reached file at → (r : Refusal) → ending (stepsFrom file at) ≡ Refused r → walkRows (r .number) (r .place)
+  walk-rows : (k at : ℕ) → length file ≤ at + k → Reached file at → (r : Refusal) → ending (stepsFrom file at) ≡ Refused r → walkRows (r .number) (r .place) (r .second)
   walk-rows zero at l reached r e = step-rows at reached r e (λ next h m g q. absurd (omega arith)) (stepAt file at) refl
   walk-rows (suc k) at l reached r e = step-rows at reached r e (λ next h m g q. walk-rows k next (omega arith) g r q) (stepAt file at) refl
 
@@ -99,8 +99,8 @@ module _ (file : List ℕ) where
   ends-alike (skipped {at} h q) = sym (ending-skip file at q) ∙ ends-alike h
   ends-alike (met {at} h q) = sym (ending-meet file at q) ∙ ends-alike h
 
-  rows-walk : (n p : ℕ) → walkRows n p → ending (stepsFrom file 2) ≡ Refused (refusal n p)
-  rows-walk n p h = sym (ends-alike (h .1 .0)) ∙ ending-broken file p (h .1 .1)
+  rows-walk : (n p q : ℕ) → walkRows n p q → ending (stepsFrom file 2) ≡ Refused (refusalAt n p q)
+  rows-walk n p q h = sym (ends-alike (h .1 .0)) ∙ (ending-broken file p (h .1 .1) ∙ rw (h .1 .2))
 
 -- ---- the packets of one box
 
@@ -112,9 +112,9 @@ missing-both ns q h = missing-is ns (length ns) 1 q (h .0) (h .1) (h .2) (h .3)
 
 packets-judged : (ps : List Packet) (room : ℕ) → Judged (packetRows ps room) room (assemble room ps)
 unfolding assemble assembled packetRows firstMissing
-packets-judged [] room = told (refusal 4 0) (refl, (refl, refl)) (λ m q h. (h .0, h .1 .0))
+packets-judged [] room = told (refusal 4 0) (refl, (refl, refl), refl) (λ m q s h. (h .0, h .1 .0, h .2))
 packets-judged (p ∷ ps) room =
-    passed (λ m q h. cons-nil (h .1 .1))
+    passed (λ m q s h. cons-nil (h .1 .1))
     (failing-judged (agree (p .head) (p ∷ ps)) 5 _ λ e.
     unless-judged (twiceAt (numbers (p ∷ ps))) 6 (firstTwice (numbers (p ∷ ps))) _ (smallest-twice (numbers (p ∷ ps))) (twice-both (numbers (p ∷ ps))) λ t.
     unless-judged (missingAt (numbers (p ∷ ps))) 7 (missingFrom (length (numbers (p ∷ ps))) 1 (numbers (p ∷ ps))) _
@@ -131,11 +131,11 @@ box-judged file kind instance room = start (begins file) refl
   where
     walked : begins file ≡ true → (o : Outcome) → ending (stepsFrom file 2) ≡ o
         → Judged (rows (2 ∷ 3 ∷ []) (brokenAt file) then packetRows (mine kind instance (packets file)) room) room (afterWalk o (assemble room (mine kind instance (packets file))))
-    walked b (Given n) e = passed (λ m q h. never-given (sym (rows-walk file m q h) ∙ e)) (packets-judged (mine kind instance (packets file)) room)
-    walked b (Refused r) e = told r (walk-rows file (length file) 2 (omega arith) first r e) (λ m q h. refused-one (sym e ∙ rows-walk file m q h))
+    walked b (Given n) e = passed (λ m q s h. never-given (sym (rows-walk file m q s h) ∙ e)) (packets-judged (mine kind instance (packets file)) room)
+    walked b (Refused r) e = told r (walk-rows file (length file) 2 (omega arith) first r e) (λ m q s h. refused-one (sym e ∙ rows-walk file m q s h))
 
     start : (b : Bool) → begins file ≡ b → Judged (row 1 (failing (begins file)) then rows (2 ∷ 3 ∷ []) (brokenAt file) then packetRows (mine kind instance (packets file)) room) room (afterWalk (ending (walk file)) (assemble room (mine kind instance (packets file))))
     start true b =
-        passed (λ m q h. true-false (sym b ∙ h .1 .1))
+        passed (λ m q s h. true-false (sym b ∙ h .1 .1))
         (rw (walk-begun file b) (walked b (ending (stepsFrom file 2)) refl))
-    start false b = rw (walk-not file b) (told (refusal 1 0) (refl, (refl, b)) (λ m q h. (h .0, h .1 .0)))
+    start false b = rw (walk-not file b) (told (refusal 1 0) (refl, (refl, b), refl) (λ m q s h. (h .0, h .1 .0, h .2)))

@@ -18,14 +18,14 @@ pub data Behind {A B : Type 0} (one : A → B → List B → Source → Out A) (
   further : {p : ℕ} {o o′ : A} {b : B} {bs : List B} {s t : Source}
       → Behind one o₀ bs₀ s₀ p o (b ∷ bs) s → one o b bs s ≡ got o′ t → Behind one o₀ bs₀ s₀ (suc p) o′ bs t
 
--- R3: "block": those before block p were read well, and block p stops with the number n
-pub record StopsAt {A B : Type 0} (one : A → B → List B → Source → Out A) (o₀ : A) (bs₀ : List B) (s₀ : Source) (n p : ℕ) : Type 0 where
+-- R3, N17: "block": those before block p were read well, and block p stops with the number n and the offset q (B8)
+pub record StopsAt {A B : Type 0} (one : A → B → List B → Source → Out A) (o₀ : A) (bs₀ : List B) (s₀ : Source) (n p q : ℕ) : Type 0 where
   pub opened : A
   pub block : B
   pub later : List B
   pub source : Source
   pub behind : Behind one o₀ bs₀ s₀ p opened (block ∷ later) source
-  pub stops : one opened block later source ≡ stopped (stop n)
+  pub stops : one opened block later source ≡ stopped (stop n q)
 
 -- R15: 18: all blocks were read well, "padding not ones, or bytes left", and p is "bytes read"
 pub record LeftOver {A B : Type 0} (one : A → B → List B → Source → Out A) (o₀ : A) (bs₀ : List B) (s₀ : Source) (p : ℕ) : Type 0 where

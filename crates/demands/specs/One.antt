@@ -1,4 +1,4 @@
--- D1: each call ends on every input and checks its own input; a refusal gives its number and place, and the lent destination then holds only zeros.
+-- D1: each call ends on every input and checks its own input; a refusal gives its number, place and second place, and the lent destination then holds only zeros.
 use mathlib.Core.Path.{_≡_}
 use mathlib.Core.Logic.{_⊎_}
 use mathlib.Core.Bool.{Bool, true, false, cond}
@@ -37,15 +37,15 @@ use Rattle.merge_rules.specs.Picture.{merge}
 use Rattle.merge_rules.specs.Call.{matrixCount, mergeCall}
 use Rattle.demands.specs.Blocks.{StopsAt, LeftOver, oneDc, oneAc}
 
--- ---- the table of N4: which number with which place, and when
+-- ---- the table of N4: which number with which place and second place, and when
 
--- N4: which number is told with which place
+-- N4, N17: which number is told with which place and second place
 abbrev pub Rows : Type 1
-Rows = ℕ → ℕ → Type 0
+Rows = ℕ → ℕ → ℕ → Type 0
 
--- N4: a number, and what it means at a place
+-- N4, N17: a number, and what it means at a place; "All other answers carry 0 as second place."
 abbrev pub row : ℕ → (ℕ → Type 0) → Rows
-row number means = λ n p. (n ≡ number) × means p
+row number means = λ n p q. (n ≡ number) × means p × (q ≡ 0)
 
 -- N4: a number stands in a list
 abbrev pub stands : ℕ → List ℕ → Bool
@@ -54,12 +54,12 @@ stands n (x ∷ numbers) = cond (eqb n x) true (stands n numbers)
 
 -- N4: numbers of one rank, met in the order in which the data are read
 abbrev pub rows : List ℕ → Rows → Rows
-rows numbers means = λ n p. T (stands n numbers) × means n p
+rows numbers means = λ n p q. T (stands n numbers) × means n p q
 
 -- N4: "A number is given exactly under its meaning and this order": a later row tells where no earlier one does
 infixr 5 _then_
 abbrev pub _then_ : Rows → Rows → Rows
-_then_ first later = λ n p. first n p ⊎ (((m q : ℕ) → first m q → ⊥) × later n p)
+_then_ first later = λ n p q. first n p q ⊎ (((m r s : ℕ) → first m r s → ⊥) × later n p q)
 
 -- N4: place "0": a test fails
 abbrev pub failing : Bool → ℕ → Type 0
@@ -77,23 +77,24 @@ pub record First (n : ℕ) (test : ℕ → Bool) (p : ℕ) : Type 0 where
 
 -- ---- an answer
 
--- D1: "With 0 the place is the count of bytes or values written"; "everything past the written part keeps its contents"
+-- D1, N17: "With 0 the place is the count of bytes or values written"; "everything past the written part keeps its contents"
 pub record Succeeded {A : Type 0} (before after : List A) (answer : Answer) : Type 0 where
   pub well : answer .number ≡ 0
+  pub second : answer .second ≡ 0
   pub written : answer .place ≤ length before
   pub long : length after ≡ length before
   pub past : drop (answer .place) after ≡ drop (answer .place) before
 
 -- D1: a row of the table, told by a number that is not 0, and "the whole lent destination is zeros"
 pub record Turned {A : Type 0} (zero : A) (table : Rows) (before after : List A) (answer : Answer) : Type 0 where
-  pub line : table (answer .number) (answer .place)
+  pub line : table (answer .number) (answer .place) (answer .second)
   pub told : answer .number ≡ 0 → ⊥
   pub zeros : after ≡ replicate (length before) zero
 
 -- N4, D1: what is answered, and that nothing else could be: whatever the rows tell is the answer
 pub record Answered {A : Type 0} (zero : A) (table : Rows) (before after : List A) (answer : Answer) : Type 0 where
   pub outcome : Succeeded before after answer ⊎ Turned zero table before after answer
-  pub only : (n p : ℕ) → table n p → (answer .number ≡ n) × (answer .place ≡ p)
+  pub only : (n p q : ℕ) → table n p q → (answer .number ≡ n) × (answer .place ≡ p) × (answer .second ≡ q)
 
 -- ---- the rows of each call
 
@@ -104,8 +105,8 @@ pub data Reached (file : List ℕ) : ℕ → Type 0 where
   met : {at start len next : ℕ} {head : Head} → Reached file at → stepAt file at ≡ Meet head start len next → Reached file next
 
 -- W6: 2 "where it was to begin", 3 "where its segment begins": the walk comes by, and the step there is broken
-abbrev pub brokenAt : List ℕ → ℕ → ℕ → Type 0
-brokenAt file number p = Reached file p × (stepAt file p ≡ Broken (refusal number p))
+abbrev pub brokenAt : List ℕ → Rows
+brokenAt file number p q = Reached file p × (stepAt file p ≡ Broken (refusal number p)) × (q ≡ 0)
 
 -- P7: 6 "the smallest such"
 abbrev pub twiceAt : List ℕ → ℕ → Type 0

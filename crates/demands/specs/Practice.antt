@@ -23,10 +23,11 @@ EndsWell file = ending (walk file) ≡ Given 0
 abbrev pub own : ℕ → ℕ → List ℕ → List Packet
 own kind instance file = mine kind instance (packets file)
 
--- D6: "the answer for that type and instance is the same: number, place and every byte of the destination"
+-- D6, N17: "the answer for that type and instance is the same: number, place and every byte of the destination"; and the second place
 pub record Same (after after′ : List ℕ) (answer answer′ : Answer) : Type 0 where
   pub number : answer .number ≡ answer′ .number
   pub place : answer .place ≡ answer′ .place
+  pub second : answer .second ≡ answer′ .second
   pub bytes : after ≡ after′
 
 -- D6: "given the same destination before the call": whatever it is, two calls that meet the promise of `box_bytes`, one on each file, come to the same
@@ -190,7 +191,7 @@ dots = replicate 6 0x2E
 abbrev pub Answers : List ℕ → ℕ → ℕ → List ℕ → Type 0
 Answers file number place left =
     (after : List ℕ) (answer : Answer) → Meets 0 (boxBytes file lpts 1 6) dots after answer
-    → (answer .number ≡ number) × (answer .place ≡ place) × (after ≡ left)
+    → (answer .number ≡ number) × (answer .place ≡ place) × (answer .second ≡ 0) × (after ≡ left)
 
 -- S10: 9.58, in front of two that are kept
 abbrev pub StillLive : List ℕ → Type 0

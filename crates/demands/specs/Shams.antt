@@ -25,15 +25,20 @@ OneOutcome = (A : Type 0) (zero : A) (v : Verdict A) (before after after′ : Li
 
 -- ---- "An invented length or place breaks demand 1's table."
 
--- D4: whoever refuses, refuses with this number at this place, and nobody who meets the demand succeeds
+-- D4: whoever refuses, refuses with this number at this place and second place, and nobody who meets the demand succeeds
 abbrev pub OneRefusal : Type 1
 OneRefusal = (A : Type 0) (zero : A) (table : Rows) (before after after′ : List A) (answer answer′ : Answer)
     → Answered zero table before after answer → Answered zero table before after′ answer′ → (answer .number ≡ 0 → ⊥)
-    → (answer′ .number ≡ answer .number) × (answer′ .place ≡ answer .place)
+    → (answer′ .number ≡ answer .number) × (answer′ .place ≡ answer .place) × (answer′ .second ≡ answer .second)
+
+-- D4, N17: and nobody invents a second place with 0
+abbrev pub NoSecond : Type 1
+NoSecond = (A : Type 0) (zero : A) (table : Rows) (before after : List A) (answer : Answer)
+    → Answered zero table before after answer → answer .number ≡ 0 → answer .second ≡ 0
 
 -- N4: the numbers of each call, and no others
 pub record Only (numbers : List ℕ) (table : Rows) : Type 0 where
-  pub among : (n p : ℕ) → table n p → T (stands n numbers)
+  pub among : (n p q : ℕ) → table n p q → T (stands n numbers)
 
 -- N4: which these are
 pub record NumbersAre : Type 0 where
@@ -110,6 +115,7 @@ WhiteboardWhole = length whiteboard ≡ 17
 pub record ShamsRefuted : Type 1 where
   pub outcome : OneOutcome
   pub refusal : OneRefusal
+  pub second : NoSecond
   pub numbers : NumbersAre
   pub refusing : AlwaysRefusing
   pub picture : OnePicture

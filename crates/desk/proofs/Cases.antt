@@ -8,7 +8,7 @@ use Rattle.desk.specs.Desk.{replyTo, served}
 use Rattle.desk.specs.declared.Reply.the-variants.{Usage, Refused, Bytes}
 
 abbrev answer : ℕ → ℕ → Answer
-answer number place = record { number = number; place = place }
+answer number place = record { number = number; place = place; second = 0 }
 
 -- a box of no bytes is a box; a refusal at place 0 is none
 pub replied : map replyTo (answer 0 3 ∷ answer 0 0 ∷ answer 4 0 ∷ answer 7 2 ∷ []) ≡ Bytes 3 ∷ Bytes 0 ∷ Refused (answer 4 0) ∷ Refused (answer 7 2) ∷ []

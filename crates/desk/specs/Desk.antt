@@ -35,7 +35,7 @@ pub record Called (file : List ℕ) (kind instance : ℕ) (before after : List �
 
 -- P23: a file of more bytes than fit is 20: the program's own, which the call never gives
 abbrev pub tooLong : Reply
-tooLong = Refused (record { number = 20; place = 0 })
+tooLong = Refused (record { number = 20; place = 0; second = 0 })
 
 -- P23: the file is too long, or the call is asked
 abbrev pub ServedIf : Bool → List ℕ → ℕ → ℕ → List ℕ → List ℕ → Reply → Type 0

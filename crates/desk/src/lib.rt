@@ -30,6 +30,7 @@ fn served(file: &[u8], most: usize, kind: u32, instance: u16, bytes: &mut [u8]) 
         return reply_to(Answer {
             number: 20,
             place: 0,
+            second: 0,
         });
     }
     let a = boxes::box_bytes(file, kind, instance, bytes);

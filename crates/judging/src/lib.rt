@@ -61,7 +61,11 @@ fn contents(h: Head) -> u64
 fn not(number: u32, place: usize) -> Ready
     ensures { λ r. ⌜ r ≡ Ready.Not (refusal number place) ⌝ }
 {
-    Ready::Not(Refusal { number, place })
+    Ready::Not(Refusal {
+        number,
+        place,
+        second: 0,
+    })
 }
 
 // Whether the packets of a type and instance, of which the first has the head h, make a box that fits into so many bytes.

@@ -1,4 +1,4 @@
-// Runs the merge on the cases that tools/vectors/merge.py computed with exact fractions, and writes number, place and the whole
+// Runs the merge on the cases that tools/vectors/merge.py computed with exact fractions, and writes number, place, second place and the whole
 // destination, a case a line.
 ghost use Prim.Native.Nat.{_<_, _≤_};
 use answers::Answer;
@@ -90,11 +90,13 @@ fn setting(bytes: &[u8], at: usize) -> merge_rules::Setting {
     }
 }
 
-// Number, place and destination, in a line.
+// Number, place, second place and destination, in a line.
 fn write_line(a: Answer, destination: &[u16]) {
     io::print_decimal(1, a.number as u64);
     io::write_all(1, b" ");
     io::print_decimal(1, a.place as u64);
+    io::write_all(1, b" ");
+    io::print_decimal(1, a.second as u64);
     let mut i = 0;
     while i < destination.len() {
         io::write_all(1, b" ");

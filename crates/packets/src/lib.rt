@@ -133,6 +133,7 @@ pub fn walk_on(file: &[u8], from: usize) -> Outcome
         Outcome::Refused(Refusal {
             number: 1,
             place: 0,
+            second: 0,
         })
     }
 }

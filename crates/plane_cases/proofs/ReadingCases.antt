@@ -6,7 +6,7 @@ use lib.IntN.{ℤ, pos}
 use lib.ListN.{replicate}
 use Rattle.laws.specs.Index.{every}
 use Rattle.laws.specs.First.{orHere, firstFail}
-use Rattle.answers.specs.Verdict.{given, refused, refusal}
+use Rattle.answers.specs.Verdict.{given, refused, refusalAt, refusal}
 use Rattle.levels.specs.Level.{inLevel, isDc, inside, firstOutside}
 use Rattle.bit_rules.specs.Digits.{digits}
 use Rattle.bit_rules.specs.Source.{opened, afterFF, nextByte, takeFrom, takeBit, onlyPadding}
@@ -38,21 +38,21 @@ rules =
     -- "A block whose position 63 was reached needs no code": 15 new values, then three times F0
     ∷ reading T (zeros 63) (0x6d ∷ 0xb6 ∷ 0xdb ∷ 0x6d ∷ 0xb6 ∷ 0xdd ∷ 0x5f ∷ []) (given (replicate 15 (pos 1) ++ zeros 48))
     -- "16 comes only when the walk has passed position 63, after the corrections on its way"
-    ∷ reading T (zeros 63) (0xaa ∷ []) (refused (refusal 16 0))
-    ∷ reading T (last (pos 3)) (0xaa ∷ []) (refused (refusal 12 0))
-    ∷ reading T (last (pos 3)) (0xaa ∷ 0x80 ∷ []) (refused (refusal 16 0))
+    ∷ reading T (zeros 63) (0xaa ∷ []) (refused (refusalAt 16 0 0))
+    ∷ reading T (last (pos 3)) (0xaa ∷ []) (refused (refusalAt 12 0 1))
+    ∷ reading T (last (pos 3)) (0xaa ∷ 0x80 ∷ []) (refused (refusalAt 16 0 1))
     -- "17 comes as soon as e is read, before any correction": no bit is left for position 4
-    ∷ reading longRun (pos 3 ∷ pos 3 ∷ pos 0 ∷ pos 3 ∷ zeros 59) (0x65 ∷ []) (refused (refusal 17 0))
+    ∷ reading longRun (pos 3 ∷ pos 3 ∷ pos 0 ∷ pos 3 ∷ zeros 59) (0x65 ∷ []) (refused (refusalAt 17 0 0))
     -- "16 bits and no code"; the data end before; "FF without 00 after it"
-    ∷ reading T (zeros 63) (0xff ∷ 0 ∷ 0xff ∷ 0 ∷ []) (refused (refusal 14 0))
-    ∷ reading T (zeros 63) (0xff ∷ 0 ∷ []) (refused (refusal 12 0))
-    ∷ reading T (zeros 63) (0xff ∷ 1 ∷ []) (refused (refusal 13 0))
+    ∷ reading T (zeros 63) (0xff ∷ 0 ∷ 0xff ∷ 0 ∷ []) (refused (refusalAt 14 0 2))
+    ∷ reading T (zeros 63) (0xff ∷ 0 ∷ []) (refused (refusalAt 12 0 2))
+    ∷ reading T (zeros 63) (0xff ∷ 1 ∷ []) (refused (refusalAt 13 0 0))
     ∷ []
 
--- and with other counts of blocks: a run of two; the place is the block; "With no blocks the data must be empty, else 18, place 0."
+-- and with other counts of blocks: a run of two; the place is the block, the second place the byte; "With no blocks the data must be empty, else 18, place 0."
 pub beyond-c : (map (λ (r : Reading). readAc 1 1 (r .codes) (r .values) (r .bytes) 63) rules ≡ map (λ (r : Reading). r .verdict) rules)
     × (readAc 1 2 longRun (block (pos 3) ++ block (pos 3)) (0x97 ∷ []) 126 ≡ given (block (pos 7) ++ block (pos 6)))
-    × (readAc 1 2 T (zeros 126) (0x3f ∷ []) 126 ≡ refused (refusal 12 1))
+    × (readAc 1 2 T (zeros 126) (0x3f ∷ []) 126 ≡ refused (refusalAt 12 1 1))
     × (readAc 1 0 T [] [] 0 ≡ given [])
     × (readAc 1 0 T [] (0xff ∷ []) 0 ≡ refused (refusal 18 0))
 unfolding every orHere firstFail inLevel isDc inside firstOutside digits opened afterFF nextByte takeFrom takeBit onlyPadding codeCount kraft holds distinct goodTable codeFrom takeCode onto closed takeNumber endRun meaning taskAt position blockEnd acBlock cut acBlocks readAc

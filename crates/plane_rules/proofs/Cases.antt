@@ -6,7 +6,7 @@ use lib.IntN.{ℤ, pos, negsuc}
 use lib.ListN.{replicate}
 use Rattle.laws.specs.Index.{every}
 use Rattle.laws.specs.First.{firstFail, orHere}
-use Rattle.answers.specs.Verdict.{Verdict, given, refused, refusal}
+use Rattle.answers.specs.Verdict.{Verdict, given, refused, refusalAt, refusal}
 use Rattle.levels.specs.Level.{inLevel, isDc, inside, firstOutside}
 use Rattle.bit_rules.specs.Digits.{digits}
 use Rattle.bit_rules.specs.Source.{opened, afterFF, nextByte, takeFrom, takeBit, onlyPadding}
@@ -46,8 +46,8 @@ readings =
     ∷ reading T (block (pos 3)) (0x3f ∷ []) (given (block (pos 7)))
     ∷ reading T (block (pos 3)) (0x43 ∷ []) (given (pos 6 ∷ negsuc 0 ∷ replicate 61 (pos 0)))
     ∷ reading T (block (pos 0)) (0x43 ∷ []) (refused (refusal 18 1))
-    ∷ reading T (block (pos 0)) [] (refused (refusal 12 0))
-    ∷ reading (table (0 ∷ 1 ∷ replicate 14 0) (0x02 ∷ [])) (block (pos 0)) (0x3f ∷ []) (refused (refusal 15 0))
+    ∷ reading T (block (pos 0)) [] (refused (refusalAt 12 0 0))
+    ∷ reading (table (0 ∷ 1 ∷ replicate 14 0) (0x02 ∷ [])) (block (pos 0)) (0x3f ∷ []) (refused (refusalAt 15 0 0))
     ∷ []
 
 pub case-c : map (λ (r : Reading). readAc 1 1 (r .codes) (r .values) (r .bytes) 63) readings ≡ map (λ (r : Reading). r .verdict) readings

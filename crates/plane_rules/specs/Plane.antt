@@ -5,7 +5,7 @@ use Prim.Native.Nat.{ℕ, zero, suc}
 use lib.Dec.{leb}
 use lib.IntN.{ℤ}
 use lib.ListN.{take, drop}
-use Rattle.answers.specs.Verdict.{Verdict, given, refused, refusal, need}
+use Rattle.answers.specs.Verdict.{Verdict, given, refused, refusalAt, need}
 use Rattle.answers.specs.declared.Refusal.{Refusal}
 use Rattle.bit_rules.specs.Source.{Source, Out, got, stopped, onlyPadding}
 use Rattle.bit_rules.specs.Reader.{Reader}
@@ -33,10 +33,10 @@ unfoldable pub onto : List ℤ → Plane → Plane
 onto values (read more s) = read (values ++ more) s
 onto values (refusing r) = refusing r
 
--- R3: one block was read, and `next` reads on; or it was not, and its number is the place
+-- R3, N17: one block was read, and `next` reads on; or it was not: refusals "give the block and, as a second place, that offset of the last bit asked for"
 abbrev pub inBlock : {A : Type 0} → ℕ → (A → Source → Plane) → Out A → Plane
 inBlock block next (got a s) = next a s
-inBlock block next (stopped x) = refusing (refusal (x .number) block)
+inBlock block next (stopped x) = refusing (refusalAt (x .number) block (x .offset))
 
 -- blocks one after another, the first with this number: `one` reads a block before later ones, and what it leaves open the next begins with
 abbrev pub blocksFrom : {A B : Type 0} → (A → B → List B → Reader (List ℤ × A)) → ℕ → A → List B → Source → Plane

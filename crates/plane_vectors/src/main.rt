@@ -123,10 +123,11 @@ fn is_ac(kind: usize) -> bool {
 }
 
 // What a call for C answered.
-fn called(number: u32, place: u64) -> Answer {
+fn called(number: u32, place: u64, second: u64) -> Answer {
     Answer {
         number,
         place: place as usize,
+        second: second as usize,
     }
 }
 
@@ -134,6 +135,7 @@ fn called(number: u32, place: u64) -> Answer {
 fn read_plane(bytes: &[u8], c: Case, values: &[i32], output: &mut [i32]) -> Answer {
     let data = records::lent(bytes, c.data);
     let mut place = 99u64;
+    let mut second = 99u64;
     if is_ac(c.kind) {
         let counts = records::lent(bytes, c.counts);
         let codes = records::lent(bytes, c.codes);
@@ -146,15 +148,25 @@ fn read_plane(bytes: &[u8], c: Case, values: &[i32], output: &mut [i32]) -> Answ
             values,
             output,
             &mut place,
+            &mut second,
         );
-        return called(ac, place);
+        return called(ac, place, second);
     }
-    let dc = reader_c::xt_read_dc_plane(c.plane, c.blocks, data, values, output, &mut place);
-    called(dc, place)
+    let dc = reader_c::xt_read_dc_plane(
+        c.plane,
+        c.blocks,
+        data,
+        values,
+        output,
+        &mut place,
+        &mut second,
+    );
+    called(dc, place, second)
 }
 
 fn write_plane(bytes: &[u8], c: Case, values: &[i32], output: &mut [u8]) -> Answer {
     let mut place = 99u64;
+    let mut second = 99u64;
     if is_ac(c.kind) {
         let counts = records::lent(bytes, c.counts);
         let codes = records::lent(bytes, c.codes);
@@ -166,14 +178,22 @@ fn write_plane(bytes: &[u8], c: Case, values: &[i32], output: &mut [u8]) -> Answ
             values,
             output,
             &mut place,
+            &mut second,
         );
-        return called(ac, place);
+        return called(ac, place, second);
     }
-    let dc = reader_c::xt_write_dc_plane(c.plane, c.blocks, values, output, &mut place);
-    called(dc, place)
+    let dc = reader_c::xt_write_dc_plane(
+        c.plane,
+        c.blocks,
+        values,
+        output,
+        &mut place,
+        &mut second,
+    );
+    called(dc, place, second)
 }
 
-// A plane is read, and number, place and the whole destination are right.
+// A plane is read, and number, place, second place and the whole destination are right.
 fn reads(
     bytes: &[u8],
     c: Case,
@@ -181,11 +201,12 @@ fn reads(
     expected: &[i32],
     number: usize,
     place: usize,
+    second: usize,
     output: &mut [i32],
 ) -> bool {
     let a = read_plane(bytes, c, values, output);
     let wrong = tallies::first_wrong_value(output, expected, number);
-    tallies::right(a, number, place, wrong)
+    tallies::right(a, number, place, second, wrong)
 }
 
 // The same for a plane that is written.
@@ -196,11 +217,12 @@ fn writes(
     expected: &[u8],
     number: usize,
     place: usize,
+    second: usize,
     output: &mut [u8],
 ) -> bool {
     let a = write_plane(bytes, c, values, output);
     let wrong = tallies::first_wrong_byte(output, expected, number);
-    tallies::right(a, number, place, wrong)
+    tallies::right(a, number, place, second, wrong)
 }
 
 // Half: downward for DC, toward zero for AC.
@@ -220,7 +242,7 @@ fn failed(next: usize) -> Finding {
     Finding { good: false, next }
 }
 
-// A record that reads: behind number and place stand the values expected.
+// A record that reads: behind number, place and second place stand the values expected.
 fn run_read(
     bytes: &[u8],
     c: Case,
@@ -232,7 +254,8 @@ fn run_read(
     let end = bytes.len();
     let number = records::number_at(bytes, at);
     let place = records::number_at(bytes, records::past(end, at, 4));
-    let out = records::past(end, at, 8);
+    let second = records::number_at(bytes, records::past(end, at, 8));
+    let out = records::past(end, at, 12);
     let n = records::number_at(bytes, out);
     let entries = records::number_at(bytes, records::past(end, out, 4));
     let next = spread(bytes, records::past(end, out, 8), entries, other);
@@ -250,17 +273,19 @@ fn run_read(
         &other[0..n],
         number,
         place,
+        second,
         &mut output[0..room],
     );
     Finding { good, next }
 }
 
-// A record that writes: behind number and place stand the bytes expected.
+// A record that writes: behind number, place and second place stand the bytes expected.
 fn run_write(bytes: &[u8], c: Case, at: usize, values: &[i32], coded: &mut [u8]) -> Finding {
     let end = bytes.len();
     let number = records::number_at(bytes, at);
     let place = records::number_at(bytes, records::past(end, at, 4));
-    let out = records::past(end, at, 8);
+    let second = records::number_at(bytes, records::past(end, at, 8));
+    let out = records::past(end, at, 12);
     let expected = records::lent(bytes, out);
     let next = records::past(end, records::past(end, out, 4), expected.len());
     let room = c.room;
@@ -274,6 +299,7 @@ fn run_write(bytes: &[u8], c: Case, at: usize, values: &[i32], coded: &mut [u8])
         expected,
         number,
         place,
+        second,
         &mut coded[0..room],
     );
     Finding { good, next }
@@ -289,7 +315,7 @@ fn run_trip(
     output: &mut [i32],
     coded: &mut [u8],
 ) -> Finding {
-    let next = records::past(bytes.len(), at, 8);
+    let next = records::past(bytes.len(), at, 12);
     let n = values.len();
     let room = c.room;
     if other.len() < n {
@@ -303,10 +329,19 @@ fn run_trip(
     }
     halve(is_ac(c.kind), values, other);
     let data = records::lent(bytes, c.data);
-    if !reads(bytes, c, &other[0..n], values, 0, n, &mut output[0..n]) {
+    if !reads(bytes, c, &other[0..n], values, 0, n, 0, &mut output[0..n]) {
         return failed(next);
     }
-    let good = writes(bytes, c, values, data, 0, data.len(), &mut coded[0..room]);
+    let good = writes(
+        bytes,
+        c,
+        values,
+        data,
+        0,
+        data.len(),
+        0,
+        &mut coded[0..room],
+    );
     Finding { good, next }
 }
 

@@ -1,5 +1,5 @@
 // The pictures of S10 (demands/specs/Practice) through `box_bytes`, three lines each: LPTS, 1 into six bytes and into three, and LPTS, 2.
-// A line is the picture's name, instance and room, the number, the place, and the six bytes of the destination, which were 46.
+// A line is the picture's name, instance and room, the number, the place, the second place, and the six bytes of the destination, which were 46.
 ghost use mathlib.Core.Path.{_≡_};
 ghost use mathlib.Core.List.{[]};
 ghost use lib.ListN.{getD};
@@ -37,6 +37,7 @@ fn ask(name: &[u8], file: &[u8], instance: u16, room: usize) {
     say(b":");
     say_number(a.number as u64);
     say_number(a.place as u64);
+    say_number(a.second as u64);
     say_three(bytes[0], bytes[1], bytes[2]);
     say_three(bytes[3], bytes[4], bytes[5]);
     say(b"\n");

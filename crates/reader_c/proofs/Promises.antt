@@ -59,19 +59,21 @@ use Rattle.reader_c.proofs.xt_merge as merge-call
 use Rattle.reader_c.proofs.xt_merge.Kinds as merge-kinds
 use Rattle.reader_c.proofs.xt_merge.Reads as merge-reads
 
--- a refusal: the number, the place, and zeros throughout
-pub record Refuses {A : Type 0} (zero : A) (number place : ℕ) (before after : List A) (r p : ℕ) : Type 0 where
+-- a refusal: the number, the place, 0 as second place, and zeros throughout
+pub record Refuses {A : Type 0} (zero : A) (number place : ℕ) (before after : List A) (r p q : ℕ) : Type 0 where
   pub numbered : r ≡ number
   pub placed : p ≡ place
+  pub seconded : q ≡ 0
   pub cleared : after ≡ replicate (length before) zero
 
-refuses : {A : Type 0} {zero : A} {number place : ℕ} {before after : List A} {r p : ℕ} {verdict : Verdict A} → Meets zero verdict before after (record { number = r; place = p })
-    → verdict ≡ refused (refusal number place) → Refuses zero number place before after r p
+refuses : {A : Type 0} {zero : A} {number place : ℕ} {before after : List A} {r p q : ℕ} {verdict : Verdict A} → Meets zero verdict before after (record { number = r; place = p; second = q })
+    → verdict ≡ refused (refusal number place) → Refuses zero number place before after r p q
 refuses {zero = zero} {before = before} m e =
     let told = m .answered ∙ ap (λ v. answerOf (outcomeOf v)) e in
     record {
       numbered = ap (λ (x : Answer). x .number) told;
       placed = ap (λ (x : Answer). x .place) told;
+      seconded = ap (λ (x : Answer). x .second) told;
       cleared = m .held ∙ ap (λ v. leaves zero v before) e;
     }
 
@@ -83,34 +85,34 @@ pub codesOfT : List ℕ
 codesOfT = 0x00 ∷ 0x01 ∷ 0xF0 ∷ []
 
 -- xt_box_bytes
-module _ (κs : Lfts 3) (a : ArgsD box-call.signature κs) (r : ResD box-call.signature κs) (s : AtExit (endedOf 3 box-kinds.ps box-kinds.r) κs) (promise : box-reads.Learnt κs a r s) where
+module _ (κs : Lfts 4) (a : ArgsD box-call.signature κs) (r : ResD box-call.signature κs) (s : AtExit (endedOf 4 box-kinds.ps box-kinds.r) κs) (promise : box-reads.Learnt κs a r s) where
   pub box-meets : Meets 0 (boxBytes (now (a .0)) (a .1 .0) (a .1 .1 .0) (length (now (a .1 .1 .1 .0))))
-      (now (a .1 .1 .1 .0)) (now (s .1 .1 .1 .0)) (record { number = r; place = now (s .1 .1 .1 .1 .0) })
+      (now (a .1 .1 .1 .0)) (now (s .1 .1 .1 .0)) (record { number = r; place = now (s .1 .1 .1 .1 .0); second = now (s .1 .1 .1 .1 .1 .0) })
   box-meets = promise
 
   -- an empty file does not begin FF D8: 1, place 0
   pub box-refuses : (now (a .0) ≡ [])
-      → Refuses 0 1 0 (now (a .1 .1 .1 .0)) (now (s .1 .1 .1 .0)) r (now (s .1 .1 .1 .1 .0))
+      → Refuses 0 1 0 (now (a .1 .1 .1 .0)) (now (s .1 .1 .1 .0)) r (now (s .1 .1 .1 .1 .0)) (now (s .1 .1 .1 .1 .1 .0))
   unfolding boxBytes stepsIn stepsFrom begins walk ending
   box-refuses e0 = refuses box-meets (rw (e0))
 
 -- xt_list_packets
-module _ (κs : Lfts 3) (a : ArgsD list-call.signature κs) (r : ResD list-call.signature κs) (s : AtExit (endedOf 3 list-kinds.ps list-kinds.r) κs) (promise : list-reads.Learnt κs a r s) where
+module _ (κs : Lfts 4) (a : ArgsD list-call.signature κs) (r : ResD list-call.signature κs) (s : AtExit (endedOf 4 list-kinds.ps list-kinds.r) κs) (promise : list-reads.Learnt κs a r s) where
   pub list-meets : Meets 0 (listPackets (now (a .0)) (length (now (a .1 .0))))
-      (now (a .1 .0)) (now (s .1 .0)) (record { number = r; place = now (s .1 .1 .0) })
+      (now (a .1 .0)) (now (s .1 .0)) (record { number = r; place = now (s .1 .1 .0); second = now (s .1 .1 .1 .0) })
   list-meets = promise
 
   -- the listing of an empty file has 38 bytes: 9 where there is no room
   pub list-refuses : (now (a .0) ≡ [])
       → (now (a .1 .0) ≡ [])
-      → Refuses 0 9 38 (now (a .1 .0)) (now (s .1 .0)) r (now (s .1 .1 .0))
+      → Refuses 0 9 38 (now (a .1 .0)) (now (s .1 .0)) r (now (s .1 .1 .0)) (now (s .1 .1 .1 .0))
   unfolding listPackets listing line lines header answer decIn dec packetsIn packets stepsIn stepsFrom begins walk ending
   list-refuses e0 e1 = refuses list-meets (rw (e0, e1))
 
 -- xt_read_dc_plane
-module _ (κs : Lfts 4) (a : ArgsD readdc-call.signature κs) (r : ResD readdc-call.signature κs) (s : AtExit (endedOf 4 readdc-kinds.ps readdc-kinds.r) κs) (promise : readdc-reads.Learnt κs a r s) where
+module _ (κs : Lfts 5) (a : ArgsD readdc-call.signature κs) (r : ResD readdc-call.signature κs) (s : AtExit (endedOf 5 readdc-kinds.ps readdc-kinds.r) κs) (promise : readdc-reads.Learnt κs a r s) where
   pub read-dc-meets : Meets (pos 0) (readDc (a .0) (a .1 .0) (now (a .1 .1 .1 .0)) (now (a .1 .1 .0)) (length (now (a .1 .1 .1 .1 .0))))
-      (now (a .1 .1 .1 .1 .0)) (now (s .1 .1 .1 .1 .0)) (record { number = r; place = now (s .1 .1 .1 .1 .1 .0) })
+      (now (a .1 .1 .1 .1 .0)) (now (s .1 .1 .1 .1 .0)) (record { number = r; place = now (s .1 .1 .1 .1 .1 .0); second = now (s .1 .1 .1 .1 .1 .1 .0) })
   read-dc-meets = promise
 
   -- one block and no room: 9, place 1
@@ -118,28 +120,28 @@ module _ (κs : Lfts 4) (a : ArgsD readdc-call.signature κs) (r : ResD readdc-c
       → (a .1 .0 ≡ 1)
       → (now (a .1 .1 .1 .0) ≡ pos 0 ∷ [])
       → (now (a .1 .1 .1 .1 .0) ≡ [])
-      → Refuses (pos 0) 9 1 (now (a .1 .1 .1 .1 .0)) (now (s .1 .1 .1 .1 .0)) r (now (s .1 .1 .1 .1 .1 .0))
+      → Refuses (pos 0) 9 1 (now (a .1 .1 .1 .1 .0)) (now (s .1 .1 .1 .1 .0)) r (now (s .1 .1 .1 .1 .1 .0)) (now (s .1 .1 .1 .1 .1 .1 .0))
   unfolding readDc every firstFail orHere inLevel isDc inside firstOutside
   read-dc-refuses e0 e1 e2 e3 = refuses read-dc-meets (rw (e0, e1, e2, e3))
 
 -- xt_write_dc_plane
-module _ (κs : Lfts 3) (a : ArgsD writedc-call.signature κs) (r : ResD writedc-call.signature κs) (s : AtExit (endedOf 3 writedc-kinds.ps writedc-kinds.r) κs) (promise : writedc-reads.Learnt κs a r s) where
+module _ (κs : Lfts 4) (a : ArgsD writedc-call.signature κs) (r : ResD writedc-call.signature κs) (s : AtExit (endedOf 4 writedc-kinds.ps writedc-kinds.r) κs) (promise : writedc-reads.Learnt κs a r s) where
   pub write-dc-meets : Meets 0 (writeDc (a .0) (a .1 .0) (now (a .1 .1 .0)) (length (now (a .1 .1 .1 .0))))
-      (now (a .1 .1 .1 .0)) (now (s .1 .1 .1 .0)) (record { number = r; place = now (s .1 .1 .1 .1 .0) })
+      (now (a .1 .1 .1 .0)) (now (s .1 .1 .1 .0)) (record { number = r; place = now (s .1 .1 .1 .1 .0); second = now (s .1 .1 .1 .1 .1 .0) })
   write-dc-meets = promise
 
   -- the second of two blocks is outside level 1: 11, place 1
   pub write-dc-refuses : (a .0 ≡ 1)
       → (a .1 .0 ≡ 2)
       → (now (a .1 .1 .0) ≡ pos 0 ∷ pos 4096 ∷ [])
-      → Refuses 0 11 1 (now (a .1 .1 .1 .0)) (now (s .1 .1 .1 .0)) r (now (s .1 .1 .1 .1 .0))
+      → Refuses 0 11 1 (now (a .1 .1 .1 .0)) (now (s .1 .1 .1 .0)) r (now (s .1 .1 .1 .1 .0)) (now (s .1 .1 .1 .1 .1 .0))
   unfolding writeDc every firstFail orHere inLevel isDc inside firstOutside
   write-dc-refuses e0 e1 e2 = refuses write-dc-meets (rw (e0, e1, e2))
 
 -- xt_inverse_transform
-module _ (κs : Lfts 4) (a : ArgsD transform-call.signature κs) (r : ResD transform-call.signature κs) (s : AtExit (endedOf 4 transform-kinds.ps transform-kinds.r) κs) (promise : transform-reads.Learnt κs a r s) where
+module _ (κs : Lfts 5) (a : ArgsD transform-call.signature κs) (r : ResD transform-call.signature κs) (s : AtExit (endedOf 5 transform-kinds.ps transform-kinds.r) κs) (promise : transform-reads.Learnt κs a r s) where
   pub transform-meets : Meets (pos 0) (inverseTransform (a .0) (a .1 .0) (now (a .1 .1 .0)) (now (a .1 .1 .1 .0)) (length (now (a .1 .1 .1 .1 .0))))
-      (now (a .1 .1 .1 .1 .0)) (now (s .1 .1 .1 .1 .0)) (record { number = r; place = now (s .1 .1 .1 .1 .1 .0) })
+      (now (a .1 .1 .1 .1 .0)) (now (s .1 .1 .1 .1 .0)) (record { number = r; place = now (s .1 .1 .1 .1 .1 .0); second = now (s .1 .1 .1 .1 .1 .1 .0) })
   transform-meets = promise
 
   -- a block of zeros at R 4 and no room: 9, place 64
@@ -148,28 +150,28 @@ module _ (κs : Lfts 4) (a : ArgsD transform-call.signature κs) (r : ResD trans
       → (now (a .1 .1 .0) ≡ replicate 64 (pos 0))
       → (now (a .1 .1 .1 .0) ≡ replicate 64 255)
       → (now (a .1 .1 .1 .1 .0) ≡ [])
-      → Refuses (pos 0) 9 64 (now (a .1 .1 .1 .1 .0)) (now (s .1 .1 .1 .1 .0)) r (now (s .1 .1 .1 .1 .1 .0))
+      → Refuses (pos 0) 9 64 (now (a .1 .1 .1 .1 .0)) (now (s .1 .1 .1 .1 .0)) r (now (s .1 .1 .1 .1 .1 .0)) (now (s .1 .1 .1 .1 .1 .1 .0))
   unfolding inverseTransform firstBadQuantiser isQuantiser picture blockSamples tab joinTo every firstFail orHere inLevel isDc inside firstOutside
   transform-refuses e0 e1 e2 e3 e4 = refuses transform-meets (rw (e0, e1, e2, e3, e4))
 
 -- xt_preview_owes
-module _ (κs : Lfts 3) (a : ArgsD preview-call.signature κs) (r : ResD preview-call.signature κs) (s : AtExit (endedOf 3 preview-kinds.ps preview-kinds.r) κs) (promise : preview-reads.Learnt κs a r s) where
+module _ (κs : Lfts 4) (a : ArgsD preview-call.signature κs) (r : ResD preview-call.signature κs) (s : AtExit (endedOf 4 preview-kinds.ps preview-kinds.r) κs) (promise : preview-reads.Learnt κs a r s) where
   pub preview-meets : Meets 0 (previewOwes (a .0) (now (a .1 .0)) (length (now (a .1 .1 .0))))
-      (now (a .1 .1 .0)) (now (s .1 .1 .0)) (record { number = r; place = now (s .1 .1 .1 .0) })
+      (now (a .1 .1 .0)) (now (s .1 .1 .0)) (record { number = r; place = now (s .1 .1 .1 .0); second = now (s .1 .1 .1 .1 .0) })
   preview-meets = promise
 
   -- four planes left, quantisers 255 and no room: 9, place 64
   pub preview-refuses : (a .0 ≡ 4)
       → (now (a .1 .0) ≡ replicate 64 255)
       → (now (a .1 .1 .0) ≡ [])
-      → Refuses 0 9 64 (now (a .1 .1 .0)) (now (s .1 .1 .0)) r (now (s .1 .1 .1 .0))
+      → Refuses 0 9 64 (now (a .1 .1 .0)) (now (s .1 .1 .0)) r (now (s .1 .1 .1 .0)) (now (s .1 .1 .1 .1 .0))
   unfolding previewOwes firstBadQuantiser isQuantiser owedBlock tab every firstFail orHere
   preview-refuses e0 e1 e2 = refuses preview-meets (rw (e0, e1, e2))
 
 -- xt_read_ac_plane
-module _ (κs : Lfts 6) (a : ArgsD readac-call.signature κs) (r : ResD readac-call.signature κs) (s : AtExit (endedOf 6 readac-kinds.ps readac-kinds.r) κs) (promise : readac-reads.Learnt κs a r s) where
+module _ (κs : Lfts 7) (a : ArgsD readac-call.signature κs) (r : ResD readac-call.signature κs) (s : AtExit (endedOf 7 readac-kinds.ps readac-kinds.r) κs) (promise : readac-reads.Learnt κs a r s) where
   pub read-ac-meets : Meets (pos 0) (readAc (a .0) (a .1 .0) (table (now (a .1 .1 .0)) (now (a .1 .1 .1 .0))) (now (a .1 .1 .1 .1 .1 .0)) (now (a .1 .1 .1 .1 .0)) (length (now (a .1 .1 .1 .1 .1 .1 .0))))
-      (now (a .1 .1 .1 .1 .1 .1 .0)) (now (s .1 .1 .1 .1 .1 .1 .0)) (record { number = r; place = now (s .1 .1 .1 .1 .1 .1 .1 .0) })
+      (now (a .1 .1 .1 .1 .1 .1 .0)) (now (s .1 .1 .1 .1 .1 .1 .0)) (record { number = r; place = now (s .1 .1 .1 .1 .1 .1 .1 .0); second = now (s .1 .1 .1 .1 .1 .1 .1 .1 .0) })
   read-ac-meets = promise
 
   -- one block by table T and no room: 9, place 63
@@ -179,14 +181,14 @@ module _ (κs : Lfts 6) (a : ArgsD readac-call.signature κs) (r : ResD readac-c
       → (now (a .1 .1 .1 .0) ≡ codesOfT)
       → (now (a .1 .1 .1 .1 .1 .0) ≡ replicate 63 (pos 0))
       → (now (a .1 .1 .1 .1 .1 .1 .0) ≡ [])
-      → Refuses (pos 0) 9 63 (now (a .1 .1 .1 .1 .1 .1 .0)) (now (s .1 .1 .1 .1 .1 .1 .0)) r (now (s .1 .1 .1 .1 .1 .1 .1 .0))
+      → Refuses (pos 0) 9 63 (now (a .1 .1 .1 .1 .1 .1 .0)) (now (s .1 .1 .1 .1 .1 .1 .0)) r (now (s .1 .1 .1 .1 .1 .1 .1 .0)) (now (s .1 .1 .1 .1 .1 .1 .1 .1 .0))
   unfolding countsOfT codesOfT readAc codeCount kraft holds distinct goodTable every firstFail orHere inLevel isDc inside firstOutside
   read-ac-refuses e0 e1 e2 e3 e4 e5 = refuses read-ac-meets (rw (e0, e1, e2, e3, e4, e5))
 
 -- xt_write_ac_plane
-module _ (κs : Lfts 5) (a : ArgsD writeac-call.signature κs) (r : ResD writeac-call.signature κs) (s : AtExit (endedOf 5 writeac-kinds.ps writeac-kinds.r) κs) (promise : writeac-reads.Learnt κs a r s) where
+module _ (κs : Lfts 6) (a : ArgsD writeac-call.signature κs) (r : ResD writeac-call.signature κs) (s : AtExit (endedOf 6 writeac-kinds.ps writeac-kinds.r) κs) (promise : writeac-reads.Learnt κs a r s) where
   pub write-ac-meets : Meets 0 (writeAc (a .0) (a .1 .0) (table (now (a .1 .1 .0)) (now (a .1 .1 .1 .0))) (now (a .1 .1 .1 .1 .0)) (length (now (a .1 .1 .1 .1 .1 .0))))
-      (now (a .1 .1 .1 .1 .1 .0)) (now (s .1 .1 .1 .1 .1 .0)) (record { number = r; place = now (s .1 .1 .1 .1 .1 .1 .0) })
+      (now (a .1 .1 .1 .1 .1 .0)) (now (s .1 .1 .1 .1 .1 .0)) (record { number = r; place = now (s .1 .1 .1 .1 .1 .1 .0); second = now (s .1 .1 .1 .1 .1 .1 .1 .0) })
   write-ac-meets = promise
 
   -- the last value of a block is outside level 1: 11, place 62
@@ -195,14 +197,14 @@ module _ (κs : Lfts 5) (a : ArgsD writeac-call.signature κs) (r : ResD writeac
       → (now (a .1 .1 .0) ≡ countsOfT)
       → (now (a .1 .1 .1 .0) ≡ codesOfT)
       → (now (a .1 .1 .1 .1 .0) ≡ replicate 62 (pos 0) ++ (pos 4096 ∷ []))
-      → Refuses 0 11 62 (now (a .1 .1 .1 .1 .1 .0)) (now (s .1 .1 .1 .1 .1 .0)) r (now (s .1 .1 .1 .1 .1 .1 .0))
+      → Refuses 0 11 62 (now (a .1 .1 .1 .1 .1 .0)) (now (s .1 .1 .1 .1 .1 .0)) r (now (s .1 .1 .1 .1 .1 .1 .0)) (now (s .1 .1 .1 .1 .1 .1 .1 .0))
   unfolding countsOfT codesOfT writeAc codeCount kraft holds distinct goodTable every firstFail orHere inLevel isDc inside firstOutside
   write-ac-refuses e0 e1 e2 e3 e4 = refuses write-ac-meets (rw (e0, e1, e2, e3, e4))
 
 -- xt_merge
-module _ (κs : Lfts 6) (a : ArgsD merge-call.signature κs) (r : ResD merge-call.signature κs) (s : AtExit (endedOf 6 merge-kinds.ps merge-kinds.r) κs) (promise : merge-reads.Learnt κs a r s) where
+module _ (κs : Lfts 7) (a : ArgsD merge-call.signature κs) (r : ResD merge-call.signature κs) (s : AtExit (endedOf 7 merge-kinds.ps merge-kinds.r) κs) (promise : merge-reads.Learnt κs a r s) where
   pub merge-meets : Meets 0 (mergeCall (known (a .1 .1 .1 .1 .1 .0) (a .1 .1 .1 .1 .1 .1 .0) (a .1 .1 .1 .1 .1 .1 .1 .0) (a .1 .1 .1 .1 .1 .1 .1 .1 .0) (a .1 .1 .1 .1 .1 .1 .1 .1 .1 .0)) (settingOf (a .0) (a .1 .0) (a .1 .1 .0) (a .1 .1 .1 .0) (a .1 .1 .1 .1 .1 .0) (a .1 .1 .1 .1 .1 .1 .0) (a .1 .1 .1 .1 .1 .1 .1 .0) (now (a .1 .1 .1 .1 .1 .1 .1 .1 .1 .1 .1 .1 .1 .0)) (a .1 .1 .1 .1 .1 .1 .1 .1 .0) (a .1 .1 .1 .1 .1 .1 .1 .1 .1 .0)) (a .1 .1 .1 .1 .0) (now (a .1 .1 .1 .1 .1 .1 .1 .1 .1 .1 .0)) (now (a .1 .1 .1 .1 .1 .1 .1 .1 .1 .1 .1 .0)) (now (a .1 .1 .1 .1 .1 .1 .1 .1 .1 .1 .1 .1 .0)) (now (a .1 .1 .1 .1 .1 .1 .1 .1 .1 .1 .1 .1 .1 .0)) (length (now (a .1 .1 .1 .1 .1 .1 .1 .1 .1 .1 .1 .1 .1 .1 .0))))
-      (now (a .1 .1 .1 .1 .1 .1 .1 .1 .1 .1 .1 .1 .1 .1 .0)) (now (s .1 .1 .1 .1 .1 .1 .1 .1 .1 .1 .1 .1 .1 .1 .0)) (record { number = r; place = now (s .1 .1 .1 .1 .1 .1 .1 .1 .1 .1 .1 .1 .1 .1 .1 .0) })
+      (now (a .1 .1 .1 .1 .1 .1 .1 .1 .1 .1 .1 .1 .1 .1 .0)) (now (s .1 .1 .1 .1 .1 .1 .1 .1 .1 .1 .1 .1 .1 .1 .0)) (record { number = r; place = now (s .1 .1 .1 .1 .1 .1 .1 .1 .1 .1 .1 .1 .1 .1 .1 .0); second = now (s .1 .1 .1 .1 .1 .1 .1 .1 .1 .1 .1 .1 .1 .1 .1 .1 .0) })
   merge-meets = promise
 
   -- no pixels, and entry 3 of the table too large at Rb 1: 11, place 3
@@ -220,6 +222,6 @@ module _ (κs : Lfts 6) (a : ArgsD merge-call.signature κs) (r : ResD merge-cal
       → (now (a .1 .1 .1 .1 .1 .1 .1 .1 .1 .1 .1 .0) ≡ [])
       → (now (a .1 .1 .1 .1 .1 .1 .1 .1 .1 .1 .1 .1 .0) ≡ 0 ∷ 0 ∷ 0 ∷ replicate 253 512)
       → (now (a .1 .1 .1 .1 .1 .1 .1 .1 .1 .1 .1 .1 .1 .0) ≡ [])
-      → Refuses 0 11 3 (now (a .1 .1 .1 .1 .1 .1 .1 .1 .1 .1 .1 .1 .1 .1 .0)) (now (s .1 .1 .1 .1 .1 .1 .1 .1 .1 .1 .1 .1 .1 .1 .0)) r (now (s .1 .1 .1 .1 .1 .1 .1 .1 .1 .1 .1 .1 .1 .1 .1 .0))
+      → Refuses 0 11 3 (now (a .1 .1 .1 .1 .1 .1 .1 .1 .1 .1 .1 .1 .1 .1 .0)) (now (s .1 .1 .1 .1 .1 .1 .1 .1 .1 .1 .1 .1 .1 .1 .0)) r (now (s .1 .1 .1 .1 .1 .1 .1 .1 .1 .1 .1 .1 .1 .1 .1 .0)) (now (s .1 .1 .1 .1 .1 .1 .1 .1 .1 .1 .1 .1 .1 .1 .1 .1 .0))
   unfolding mergeCall settingNumber known matrixCount settingOf colourOf curveOf matrixOf residualOf weightsOf merge mergeTests every firstFail orHere inRanges plain srgbAllowed residualCount lengthsRight entryRight entries
   merge-refuses e0 e1 e2 e3 e4 e5 e6 e7 e8 e9 e10 e11 e12 e13 = refuses merge-meets (rw (e0, e1, e2, e3, e4, e5, e6, e7, e8, e9, e10, e11, e12, e13))

@@ -1,5 +1,5 @@
 // The public calls for C and Rust (docs/RULES.md, C1 to C7): thin, with the same promises. A slice passes as a pointer and then a length in elements;
-// the number is returned and the place written through the last parameter.
+// the number is returned, and the place and the second place are written through the last two parameters.
 ghost use mathlib.Core.Path.{_≡_};
 ghost use lib.IntN.{pos};
 ghost use lib.ListN.{length};
@@ -22,23 +22,31 @@ pub extern "C" fn xt_box_bytes(
     instance: u16,
     destination: &mut [u8],
     place: &mut u64,
+    second: &mut u64,
 ) -> u32
     ensures { λ r. ⌜ Meets 0 (boxBytes (now (file .entry)) kind instance (length (now (destination .entry))))
-        (now (destination .entry)) (now (destination .exit)) (record { number = r; place = now (place .exit) }) ⌝ }
+        (now (destination .entry)) (now (destination .exit)) (record { number = r; place = now (place .exit); second = now (second .exit) }) ⌝ }
 {
     let a = boxes::box_bytes(file, kind, instance, destination);
     *place = a.place as u64;
+    *second = a.second as u64;
     a.number
 }
 
 // C1, C4: the listing of a file's packets as text.
 #[no_mangle]
-pub extern "C" fn xt_list_packets(file: &[u8], text: &mut [u8], place: &mut u64) -> u32
+pub extern "C" fn xt_list_packets(
+    file: &[u8],
+    text: &mut [u8],
+    place: &mut u64,
+    second: &mut u64,
+) -> u32
     ensures { λ r. ⌜ Meets 0 (listPackets (now (file .entry)) (length (now (text .entry))))
-        (now (text .entry)) (now (text .exit)) (record { number = r; place = now (place .exit) }) ⌝ }
+        (now (text .entry)) (now (text .exit)) (record { number = r; place = now (place .exit); second = now (second .exit) }) ⌝ }
 {
     let a = listing_text::list_packets(file, text);
     *place = a.place as u64;
+    *second = a.second as u64;
     a.number
 }
 
@@ -51,12 +59,14 @@ pub extern "C" fn xt_read_dc_plane(
     values: &[i32],
     destination: &mut [i32],
     place: &mut u64,
+    second: &mut u64,
 ) -> u32
     ensures { λ r. ⌜ Meets (pos 0) (readDc plane blocks (now (values .entry)) (now («data» .entry)) (length (now (destination .entry))))
-        (now (destination .entry)) (now (destination .exit)) (record { number = r; place = now (place .exit) }) ⌝ }
+        (now (destination .entry)) (now (destination .exit)) (record { number = r; place = now (place .exit); second = now (second .exit) }) ⌝ }
 {
     let a = dc_reader::read_dc(plane, blocks, data, values, destination);
     *place = a.place as u64;
+    *second = a.second as u64;
     a.number
 }
 
@@ -68,12 +78,14 @@ pub extern "C" fn xt_write_dc_plane(
     values: &[i32],
     destination: &mut [u8],
     place: &mut u64,
+    second: &mut u64,
 ) -> u32
     ensures { λ r. ⌜ Meets 0 (writeDc plane blocks (now (values .entry)) (length (now (destination .entry))))
-        (now (destination .entry)) (now (destination .exit)) (record { number = r; place = now (place .exit) }) ⌝ }
+        (now (destination .entry)) (now (destination .exit)) (record { number = r; place = now (place .exit); second = now (second .exit) }) ⌝ }
 {
     let a = dc_writer::write_dc(plane, blocks, values, destination);
     *place = a.place as u64;
+    *second = a.second as u64;
     a.number
 }
 
@@ -86,12 +98,14 @@ pub extern "C" fn xt_inverse_transform(
     quantisers: &[u16],
     destination: &mut [i32],
     place: &mut u64,
+    second: &mut u64,
 ) -> u32
     ensures { λ r. ⌜ Meets (pos 0) (inverseTransform refinement blocks (now (values .entry)) (now (quantisers .entry)) (length (now (destination .entry))))
-        (now (destination .entry)) (now (destination .exit)) (record { number = r; place = now (place .exit) }) ⌝ }
+        (now (destination .entry)) (now (destination .exit)) (record { number = r; place = now (place .exit); second = now (second .exit) }) ⌝ }
 {
     let a = transform::inverse_transform(refinement, blocks, values, quantisers, destination);
     *place = a.place as u64;
+    *second = a.second as u64;
     a.number
 }
 
@@ -102,11 +116,13 @@ pub extern "C" fn xt_preview_owes(
     quantisers: &[u16],
     destination: &mut [u32],
     place: &mut u64,
+    second: &mut u64,
 ) -> u32
-    ensures { λ r. ⌜ Meets 0 (previewOwes left (now (quantisers .entry)) (length (now (destination .entry)))) (now (destination .entry)) (now (destination .exit)) (record { number = r; place = now (place .exit) }) ⌝ }
+    ensures { λ r. ⌜ Meets 0 (previewOwes left (now (quantisers .entry)) (length (now (destination .entry)))) (now (destination .entry)) (now (destination .exit)) (record { number = r; place = now (place .exit); second = now (second .exit) }) ⌝ }
 {
     let a = previews::preview_owes(left, quantisers, destination);
     *place = a.place as u64;
+    *second = a.second as u64;
     a.number
 }
 
@@ -121,11 +137,13 @@ pub extern "C" fn xt_read_ac_plane(
     values: &[i32],
     destination: &mut [i32],
     place: &mut u64,
+    second: &mut u64,
 ) -> u32
-    ensures { λ r. ⌜ Meets (pos 0) (readAc plane blocks (table (now (counts .entry)) (now (codes .entry))) (now (values .entry)) (now («data» .entry)) (length (now (destination .entry)))) (now (destination .entry)) (now (destination .exit)) (record { number = r; place = now (place .exit) }) ⌝ }
+    ensures { λ r. ⌜ Meets (pos 0) (readAc plane blocks (table (now (counts .entry)) (now (codes .entry))) (now (values .entry)) (now («data» .entry)) (length (now (destination .entry)))) (now (destination .entry)) (now (destination .exit)) (record { number = r; place = now (place .exit); second = now (second .exit) }) ⌝ }
 {
     let a = ac_reader::read_ac(plane, blocks, counts, codes, data, values, destination);
     *place = a.place as u64;
+    *second = a.second as u64;
     a.number
 }
 
@@ -139,12 +157,14 @@ pub extern "C" fn xt_write_ac_plane(
     values: &[i32],
     destination: &mut [u8],
     place: &mut u64,
+    second: &mut u64,
 ) -> u32
     ensures { λ r. ⌜ Meets 0 (writeAc plane blocks (table (now (counts .entry)) (now (codes .entry))) (now (values .entry)) (length (now (destination .entry))))
-        (now (destination .entry)) (now (destination .exit)) (record { number = r; place = now (place .exit) }) ⌝ }
+        (now (destination .entry)) (now (destination .exit)) (record { number = r; place = now (place .exit); second = now (second .exit) }) ⌝ }
 {
     let a = ac_writer::write_ac(plane, blocks, counts, codes, values, destination);
     *place = a.place as u64;
+    *second = a.second as u64;
     a.number
 }
 
@@ -167,11 +187,12 @@ pub extern "C" fn xt_merge(
     matrix: &[i16],
     destination: &mut [u16],
     place: &mut u64,
+    second: &mut u64,
 ) -> u32
     ensures { λ r. ⌜ Meets 0 (mergeCall (known tint curve matrixed added retint)
         (settingOf rb rh rr components tint curve matrixed (now (matrix .entry)) added retint) pixels
         (now (base .entry)) (now (residual .entry)) (now (table .entry)) (now (matrix .entry)) (length (now (destination .entry))))
-        (now (destination .entry)) (now (destination .exit)) (record { number = r; place = now (place .exit) }) ⌝ }
+        (now (destination .entry)) (now (destination .exit)) (record { number = r; place = now (place .exit); second = now (second .exit) }) ⌝ }
 {
     let s = merge_rules::Setting {
         rb,
@@ -188,5 +209,6 @@ pub extern "C" fn xt_merge(
     let named = choices::known(tint, curve, matrixed, added, retint);
     let a = choices::merge_or_not(named, s, pixels, base, residual, table, matrix, destination);
     *place = a.place as u64;
+    *second = a.second as u64;
     a.number
 }

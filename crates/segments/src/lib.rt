@@ -87,7 +87,11 @@ pub fn head_at(file: &[u8], m: usize) -> Head
 fn broken(number: u32, place: usize) -> Step
     ensures { λ r. ⌜ r ≡ Step.Broken (refusal number place) ⌝ }
 {
-    Step::Broken(Refusal { number, place })
+    Step::Broken(Refusal {
+        number,
+        place,
+        second: 0,
+    })
 }
 
 fn packet_at(file: &[u8], at: usize, m: usize, len: usize) -> Step

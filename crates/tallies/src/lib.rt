@@ -77,14 +77,17 @@ pub fn first_wrong_value(output: &[i32], expected: &[i32], number: usize) -> Fou
     Found::Nothing
 }
 
-// A call gave this number and place, and nothing that it left is wrong.
-pub fn right(a: Answer, number: usize, place: usize, wrong: Found) -> bool
-    ensures { λ r. ⌜ r ≡ Wanted·right a number place wrong ⌝ }
+// A call gave this number, place and second place, and nothing that it left is wrong.
+pub fn right(a: Answer, number: usize, place: usize, second: usize, wrong: Found) -> bool
+    ensures { λ r. ⌜ r ≡ Wanted·right a number place second wrong ⌝ }
 {
     if a.number as usize != number {
         return false;
     }
     if a.place != place {
+        return false;
+    }
+    if a.second != second {
         return false;
     }
     match wrong {

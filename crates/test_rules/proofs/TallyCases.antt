@@ -30,10 +30,11 @@ unfolding sameValue
 values = refl
 
 abbrev answer : Answer
-answer = record { number = 7; place = 2 }
+answer = record { number = 7; place = 2; second = 5 }
 
--- number, place and destination, each alone
-pub judged : right answer 7 2 Nothing ∷ right answer 6 2 Nothing ∷ right answer 7 1 Nothing ∷ right answer 7 2 (At 0) ∷ [] ≡ true ∷ false ∷ false ∷ false ∷ []
+-- number, place, second place and destination, each alone
+pub judged : right answer 7 2 5 Nothing ∷ right answer 6 2 5 Nothing ∷ right answer 7 1 5 Nothing ∷ right answer 7 2 0 Nothing ∷ right answer 7 2 5 (At 0) ∷ []
+    ≡ true ∷ false ∷ false ∷ false ∷ false ∷ []
 unfolding right nothing
 judged = refl
 

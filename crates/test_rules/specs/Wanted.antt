@@ -23,5 +23,5 @@ unfoldable pub nothing : Found → Bool
 nothing (At i) = false
 nothing Nothing = true
 
-unfoldable pub right : Answer → ℕ → ℕ → Found → Bool
-right a number place wrong = cond (eqb (a .number) number) (cond (eqb (a .place) place) (nothing wrong) false) false
+unfoldable pub right : Answer → ℕ → ℕ → ℕ → Found → Bool
+right a number place second wrong = cond (eqb (a .number) number) (cond (eqb (a .place) place) (cond (eqb (a .second) second) (nothing wrong) false) false) false

@@ -35,7 +35,7 @@ fn case_at(bytes: &[u8], at: usize) -> Case {
     }
 }
 
-// The call that a record asks for: number, place and the whole destination are right.
+// The call that a record asks for: number, place and the whole destination are right, and the second place is 0, as in each answer of this call.
 fn transforms(
     bytes: &[u8],
     c: Case,
@@ -50,7 +50,7 @@ fn transforms(
     records::values_at(bytes, records::past(end, c.expected, 4), expected);
     let a = transform::inverse_transform(c.refinement, c.blocks, values, quantisers, destination);
     let wrong = tallies::first_wrong_value(destination, expected, c.number);
-    tallies::right(a, c.number, c.place, wrong)
+    tallies::right(a, c.number, c.place, 0, wrong)
 }
 
 fn run_record(bytes: &[u8], at: usize) -> Finding {

@@ -120,7 +120,7 @@ code-trip T v k s u g e f =
 pub prefix-free : (T : Table) (v w k j : ℕ) (rest : List Bool) → goodTable T ≡ true → placeOf v (T .values) ≡ At k → placeOf w (T .values) ≡ At j
     → word T w ≡ word T v ++ rest → v ≡ w
 prefix-free T v w k j rest g p q e =
-    let s : Source = source (word T w) [] 0 in
+    let s : Source = source (word T w) [] 0 0 in
     let r = in-hand (word T w) [] [] s (sym (append-nil (word T w)), refl) in
     let u : Source = r .0 in
     let all : Gives s (word T w) u = r .1 in

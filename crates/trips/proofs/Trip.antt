@@ -58,14 +58,14 @@ padded-digits c (suc m) q =
 -- of those in hand
 bit-in-hand : (s : Source) (b : Bool) (rest : List Bool) (d : List ℕ) → Unread s (b ∷ rest) d → (t : Source) × (takeBit s ≡ got b t) × Unread t rest d
 unfolding takeBit takeFrom
-bit-in-hand s b rest d h = (source rest d (s .seen), rw (h .0, h .1), (refl, refl))
+bit-in-hand s b rest d h = (source rest d (s .seen) (s .last), rw (h .0, h .1), (refl, refl))
 
--- the first bit of a stuffed byte is that of its digits, all bytes of it counted
-opened-stuffed : (v : ℕ) (d : List ℕ) (n : ℕ) → nextByte (stuffed v d) n ≡ takeFrom (digits 8 v) d (n + length (stuffed v []))
+-- the first bit of a stuffed byte is that of its digits, all bytes of it counted, at the offset of the first
+opened-stuffed : (v : ℕ) (d : List ℕ) (n : ℕ) → nextByte (stuffed v d) n ≡ takeFrom (digits 8 v) d (n + length (stuffed v [])) n
 unfolding stuffed takeFrom nextByte afterFF opened digits
 opened-stuffed v d n = go (eqb v 255) refl
   where
-    go : (t : Bool) → eqb v 255 ≡ t → nextByte (stuffed v d) n ≡ takeFrom (digits 8 v) d (n + length (stuffed v []))
+    go : (t : Bool) → eqb v 255 ≡ t → nextByte (stuffed v d) n ≡ takeFrom (digits 8 v) d (n + length (stuffed v [])) n
     go true q = rw (eqb-true v 255 q)
     go false q = rw (q, stuffed) (rw q)
 
@@ -74,7 +74,7 @@ byte-opened : (s : Source) (v : ℕ) (b : Bool) (rest : List Bool) (d : List ℕ
 unfolding takeBit takeFrom
 byte-opened s v b rest d e h =
     let n : ℕ = s .seen + length (stuffed v []) in
-    (source rest d n, rw (h .0, h .1) (opened-stuffed v d (s .seen) ∙ ap (λ (p : List Bool). takeFrom p d n) e), (refl, refl))
+    (source rest d n (s .seen), rw (h .0, h .1) (opened-stuffed v d (s .seen) ∙ ap (λ (p : List Bool). takeFrom p d n (s .seen)) e), (refl, refl))
 
 -- ---- a byte
 

@@ -131,47 +131,49 @@ read-word T g v s u e =
 
 -- ---- no code
 
--- a stop has its number
-told : {A : Type 0} (n : ℕ) (x : Stop) → _≡_ {A = Out A} (stopped (stop n)) (stopped x) → x .number ≡ n
-told n x e = let q : stop n ≡ x = cc in rw (← q)
+-- a stop is one
+told : {A : Type 0} (y x : Stop) → _≡_ {A = Out A} (stopped y) (stopped x) → y ≡ x
+told y x e = cc
 
 bit-stops : (s : Source) (x : Stop) → takeBit s ≡ stopped x → x .number ≡ 14 → ⊥
 bit-stops s x e n = go (subst (Took s) e (took s))
   where
     go : Took s (stopped x) → ⊥
-    go (inl h) = omega arith
-    go (inr h) = omega arith
+    go (inl h) = omega (arith, h .number)
+    go (inr h) = omega (arith, h .number)
 
 -- all lengths were passed: so many bits were taken
 module _ (x : Stop) (fourteen : x .number ≡ 14) where
-  none-taken : (ns vs : List ℕ) (over : ℕ) (s : Source) → codeFrom ns vs over s ≡ stopped x → (bits : List Bool) × (t : Source) × (length bits ≡ length ns) × Gives s bits t
+  none-taken : (ns vs : List ℕ) (over : ℕ) (s : Source) → codeFrom ns vs over s ≡ stopped x
+      → (bits : List Bool) × (t : Source) × (length bits ≡ length ns) × Gives s bits t × (x .offset ≡ t .last)
   unfolding codeFrom
-  none-taken [] vs over s e = ([], s, refl, refl)
+  none-taken [] vs over s e = ([], s, refl, refl, sym (ap (λ (y : Stop). y .offset) (told (stop 14 (s .last)) x e)))
   none-taken (n ∷ ns) vs over s e = first (takeBit s) refl e (λ b t f. none-taken ns (drop n vs) (2 * over + bin b - n) t f)
     where
       second : (b : Bool) (t : Source) → takeBit s ≡ got b t → (c : Bool)
           → cond c (done (getD vs (2 * over + bin b) 0)) (codeFrom ns (drop n vs) (2 * over + bin b - n)) t ≡ stopped x
-          → (codeFrom ns (drop n vs) (2 * over + bin b - n) t ≡ stopped x → (bits : List Bool) × (u : Source) × (length bits ≡ length ns) × Gives t bits u)
-          → (bits : List Bool) × (u : Source) × (length bits ≡ length (n ∷ ns)) × Gives s bits u
+          → (codeFrom ns (drop n vs) (2 * over + bin b - n) t ≡ stopped x → (bits : List Bool) × (u : Source) × (length bits ≡ length ns) × Gives t bits u × (x .offset ≡ u .last))
+          → (bits : List Bool) × (u : Source) × (length bits ≡ length (n ∷ ns)) × Gives s bits u × (x .offset ≡ u .last)
       second b t p true q ih = absurd (no-stop q)
-      second b t p false q ih = let r = ih q in (b ∷ r .0, r .1, ap suc (r .2), (t, p, r .3))
+      second b t p false q ih = let r = ih q in (b ∷ r .0, r .1, ap suc (r .2), (t, p, r .3), r .4)
 
       first : (r : Out Bool) → takeBit s ≡ r → andThen (stepped ns vs n over) r ≡ stopped x
-          → ((b : Bool) (t : Source) → codeFrom ns (drop n vs) (2 * over + bin b - n) t ≡ stopped x → (bits : List Bool) × (u : Source) × (length bits ≡ length ns) × Gives t bits u)
-          → (bits : List Bool) × (u : Source) × (length bits ≡ length (n ∷ ns)) × Gives s bits u
+          → ((b : Bool) (t : Source) → codeFrom ns (drop n vs) (2 * over + bin b - n) t ≡ stopped x → (bits : List Bool) × (u : Source) × (length bits ≡ length ns) × Gives t bits u × (x .offset ≡ u .last))
+          → (bits : List Bool) × (u : Source) × (length bits ≡ length (n ∷ ns)) × Gives s bits u × (x .offset ≡ u .last)
       first (got b t) p q ih = second b t p (ltb (2 * over + bin b) n) q (ih b t)
       first (stopped y) p q ih = let k : y ≡ x = cc in absurd (bit-stops s x (p ∙ ap (λ (z : Stop). stopped z) k) fourteen)
 
 -- where there are bits for all lengths, nothing else stops the reading
-stops-none : (ns vs : List ℕ) (over : ℕ) (s t : Source) (bits : List Bool) (x : Stop) → length bits ≡ length ns → Gives s bits t → codeFrom ns vs over s ≡ stopped x → x .number ≡ 14
+stops-none : (ns vs : List ℕ) (over : ℕ) (s t : Source) (bits : List Bool) (x : Stop) → length bits ≡ length ns → Gives s bits t → codeFrom ns vs over s ≡ stopped x → stop 14 (t .last) ≡ x
 unfolding codeFrom
-stops-none [] vs over s t bits x l g e = told 14 x e
+stops-none [] vs over s t [] x l g e = ap (λ (u : Source). stop 14 (u .last)) (sym g) ∙ told (stop 14 (s .last)) x e
+stops-none [] vs over s t (b ∷ bits) x l g e = absurd (omega arith)
 stops-none (n ∷ ns) vs over s t [] x l g e = absurd (omega arith)
 stops-none (n ∷ ns) vs over s t (b ∷ bits) x l g e =
     second (ltb (2 * over + bin b) n) (rw (g .1) at e) (λ f. stops-none ns (drop n vs) (2 * over + bin b - n) (g .0) t bits x (omega arith) (g .2) f)
   where
     second : (c : Bool) → cond c (done (getD vs (2 * over + bin b) 0)) (codeFrom ns (drop n vs) (2 * over + bin b - n)) (g .0) ≡ stopped x
-        → (codeFrom ns (drop n vs) (2 * over + bin b - n) (g .0) ≡ stopped x → x .number ≡ 14) → x .number ≡ 14
+        → (codeFrom ns (drop n vs) (2 * over + bin b - n) (g .0) ≡ stopped x → stop 14 (t .last) ≡ x) → stop 14 (t .last) ≡ x
     second true q ih = absurd (no-stop q)
     second false q ih = ih q
 
@@ -188,7 +190,8 @@ begins s (x ∷ a) (y ∷ b) t u f g h =
 -- ---- the law
 
 module _ (T : Table) (g : goodTable T ≡ true) where
-  none-read : (s : Source) (x : Stop) → takeCode T s ≡ stopped x → x .number ≡ 14 → (bits : List Bool) × (t : Source) × (length bits ≡ 16) × Gives s bits t × NoWord T bits
+  none-read : (s : Source) (x : Stop) → takeCode T s ≡ stopped x → x .number ≡ 14
+      → (bits : List Bool) × (t : Source) × (length bits ≡ 16) × Gives s bits t × NoWord T bits × (x .offset ≡ t .last)
   unfolding takeCode
   none-read s x e n =
       let r = none-taken x n (T .counts) (T .values) 0 s e in (
@@ -199,18 +202,19 @@ module _ (T : Table) (g : goodTable T ≡ true) where
         λ v rest h q.
             let p = gives-split s (word T v) rest (r .1) (rw q at (r .3)) in
             no-stop (sym (code-trip T v (h .0) s (p .0) g (h .1) (p .1)) ∙ e),
+        r .4,
       )
 
-  none-reads : (s t : Source) (bits : List Bool) → length bits ≡ 16 → Gives s bits t → NoWord T bits → (x : Stop) × (takeCode T s ≡ stopped x) × (x .number ≡ 14)
+  none-reads : (s t : Source) (bits : List Bool) → length bits ≡ 16 → Gives s bits t → NoWord T bits → takeCode T s ≡ stopped (stop 14 (t .last))
   unfolding takeCode
   none-reads s t bits l f w = go (takeCode T s) refl
     where
-      go : (r : Out ℕ) → takeCode T s ≡ r → (x : Stop) × (takeCode T s ≡ stopped x) × (x .number ≡ 14)
+      go : (r : Out ℕ) → takeCode T s ≡ r → takeCode T s ≡ stopped (stop 14 (t .last))
       go (got v u) e =
           let r = read-word T g v s u e in
           let b = begins s (word T v) bits u t (r .1) f (omega (arith, r .2)) in
           absurd (w v (b .0) (r .0) (b .1))
-      go (stopped x) e = (x, e, stops-none (T .counts) (T .values) 0 s t bits x (l ∙ sym (good T g .sixteen)) f e)
+      go (stopped x) e = e ∙ ap (λ (y : Stop). stopped y) (sym (stops-none (T .counts) (T .values) 0 s t bits x (l ∙ sym (good T g .sixteen)) f e))
 
   pub by-words : ReadByWords T
   by-words = record {

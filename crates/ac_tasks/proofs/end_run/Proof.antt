@@ -1,6 +1,7 @@
 -- `ac_tasks::end_run` meets its contract. Assumes nothing.
 use mathlib.Core.Path.{sym, ap, _∙_}
 use lib.Pow.{pow-pos}
+use Rattle.bits.specs.Code.{sourceOf}
 use Rattle.plane_rules.specs.AcRead.{endRun}
 use Rattle.ac_tasks.specs.Code.{numberOf, askedOf}
 use Rattle.ac_tasks.proofs.Numbers.{moved-one, power-small}
@@ -28,7 +29,7 @@ returns c =
     rw (sym (at-take-number .take-number .ensures .same) ∙ ap (numberOf _) (at-t .t .given .1), run-fits (a .left) (a .r) (at-t .t .given .0 .0) (at-entry .pre) (c .if1 .taken), moved-one (a .r) (at-entry .pre))
 
 returns-2 : tie.Need-returns-2
-unfolding endRun askedOf numberOf
+unfolding endRun askedOf numberOf sourceOf
 returns-2 c =
     let a = c .before .before .before .before .before .before .args in
     rw (sym (c .before .before .before .before .take-number .ensures .same) ∙ ap (numberOf _) (c .before .before .t .given .1), run-past (a .left) (a .r) (c .before .before .t .given .0 .0) (c .before .before .before .before .before .before .pre) (c .if1 .left))

@@ -1,7 +1,7 @@
 -- `ac_tasks::meaning` meets its contract. Assumes nothing.
 use mathlib.Core.Path.{sym, ap, _∙_}
 use borrow.Author.Tests.{lt-ltb, le-ltb}
-use Rattle.bits.specs.Code.{takenOf}
+use Rattle.bits.specs.Code.{sourceOf, takenOf}
 use Rattle.plane_rules.specs.AcRead.{meaning}
 use Rattle.ac_tasks.specs.Code.{askedOf}
 use Rattle.ac_tasks.proofs.Tasks.{low-bits, low-one, unused}
@@ -10,7 +10,7 @@ use Rattle.ac_tasks.proofs.meaning.Statement.{statement}
 use Rattle.ac_tasks.proofs.meaning.Tie as tie
 
 returns : tie.Need-returns
-unfolding askedOf
+unfolding askedOf sourceOf
 returns c = unused (c .before .before .before .args .v) _ _ _ (c .if1 .taken)
 
 returns-2 : tie.Need-returns-2

@@ -54,6 +54,7 @@ take-bit-spec =
     (λ c κs. search needs)
     returns-3
     (λ c. search needs)
+    (λ c. search needs)
     returns-4
     (λ c. search needs)
     (λ c. search needs)

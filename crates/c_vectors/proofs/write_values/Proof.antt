@@ -6,10 +6,10 @@ use Rattle.c_vectors.proofs.write_values.Statement.{statement}
 use Rattle.c_vectors.proofs.write_values.Tie as tie
 
 abbrev Inv-loop : tie.InvT-loop
-Inv-loop number place destination i₀ t5 i = i ≤ length destination
+Inv-loop number place second destination i₀ t6 i = i ≤ length destination
 
 abbrev μ-loop : tie.MeasureT-loop
-μ-loop number place destination i₀ t5 i = length destination - i
+μ-loop number place second destination i₀ t6 i = length destination - i
 
 pub write-values-spec : {M : Type 1} → statement M
 write-values-spec =
@@ -17,6 +17,7 @@ write-values-spec =
     (tie.spec
     Inv-loop
     μ-loop
+    (λ c κs. search needs)
     (λ c κs. search needs)
     (λ c κs. search needs)
     (λ c. search needs)

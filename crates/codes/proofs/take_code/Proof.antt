@@ -66,7 +66,7 @@ loop-again c =
     rw (c .before .wide .ensures .0) (here-on (b .loop .inv) (c .before .before .before .before .before .before .before .loop-test .taken) (took (c .before .before .before .before)) (rw (c .before .wide .ensures .0) at (c .if1 .left)))
 
 returns-3 : tie.Need-returns-3 Inv-loop μ-loop
-unfolding codedOf
+unfolding codedOf sourceOf
 returns-3 c = here-none (c .before .loop .inv) (c .loop-test .left)
 
 pub take-code-spec : {M : Type 1} → statement M

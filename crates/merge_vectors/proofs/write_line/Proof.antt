@@ -7,10 +7,10 @@ use Rattle.merge_vectors.proofs.write_line.Statement.{statement}
 use Rattle.merge_vectors.proofs.write_line.Tie as tie
 
 abbrev Inv-loop : tie.InvT-loop
-Inv-loop destination i₀ t5 t6 i = i ≤ length destination
+Inv-loop destination i₀ t6 t7 i = i ≤ length destination
 
 abbrev μ-loop : tie.MeasureT-loop
-μ-loop destination i₀ t5 t6 i = length destination - i
+μ-loop destination i₀ t6 t7 i = length destination - i
 
 cast-print-decimal-2 : tie.Need-cast-print-decimal-2 Inv-loop μ-loop
 cast-print-decimal-2 c = omega (arith, c .shared-slice-known2 .given (c .before .before .before .before .loop .i))
@@ -22,6 +22,9 @@ write-line-spec =
     Inv-loop
     μ-loop
     (λ c. search needs)
+    (λ c κs. search needs)
+    (λ c. search needs)
+    (λ c κs. search needs)
     (λ c κs. search needs)
     (λ c. search needs)
     (λ c κs. search needs)

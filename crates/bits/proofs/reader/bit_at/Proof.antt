@@ -92,8 +92,8 @@ module _ {M : Type 1} (𝓤 : URA M) (H : Heap 𝓤) (A : Atoms 𝓤) (W : Given
         qed W (raw (onEntry 𝓤 H A bit.signature (κ, tt) (q, tt) (s, (c, tt)) at) ∷ []) ∵ enter ! Cs Λ code.function (slice s ∷ C′.lowered c ∷ []) _ $
         alloc1 ! (λ l₀. alloc1 ! (λ l₁. alloc1 ! (λ l₂. alloc1 ! (λ l₃. alloc0 ! $ params1 ! $
         pass1 ! (init ! 4 refl (shr-slice-lawful 𝓤 H A W (named 0) κ u8 .typed s (slice s ∷ []) p .0)) $ pass1 ! (init ! 2 refl wc) $ pass0 ! $
-        assigns ! (agg ! (and-then ! (load ! (from ! (stop !)) (look ! 4 refl)) (and-then ! (load ! (from ! (fld ! refl (stop !))) (look-in ! 2 (sub ! 0 refl (whole !)))) (and-then ! (load ! (from ! (fld ! refl (stop !))) (look-in ! 2 (sub ! 1 refl (whole !)))) (and-then ! (load ! (from ! (fld ! refl (stop !))) (look-in ! 2 (sub ! 2 refl (whole !)))) (no-more !)))))) (from ! (stop !))
-        (init ! 0 refl (tt, (shr-slice-lawful 𝓤 H A W (named 0) κ u8 .typed s (slice s ∷ []) p .0 .1, (wc .1 .0, (wc .1 .1 .0, (wc .1 .1 .1 .0, tt)))))) $
+        assigns ! (agg ! (and-then ! (load ! (from ! (stop !)) (look ! 4 refl)) (and-then ! (load ! (from ! (fld ! refl (stop !))) (look-in ! 2 (sub ! 0 refl (whole !)))) (and-then ! (load ! (from ! (fld ! refl (stop !))) (look-in ! 2 (sub ! 1 refl (whole !)))) (and-then ! (load ! (from ! (fld ! refl (stop !))) (look-in ! 2 (sub ! 2 refl (whole !)))) (and-then ! (load ! (from ! (fld ! refl (stop !))) (look-in ! 2 (sub ! 3 refl (whole !)))) (no-more !))))))) (from ! (stop !))
+        (init ! 0 refl (tt, (shr-slice-lawful 𝓤 H A W (named 0) κ u8 .typed s (slice s ∷ []) p .0 .1, (wc .1 .0, (wc .1 .1 .0, (wc .1 .1 .1 .0, (wc .1 .1 .1 .1 .0, tt))))))) $
         move ! (8 ∷ []) $ use1 W (‵ (Own κ (readerAt s c)) ⊛ ((‵ (flft κ q) ⊛ ‵ ftrue) ⊛ ‵ (Both κ s c))) (holds 𝓤 H A W κ q s c) $ split ! $ move ! (1 ∷ []) $ split ! $ move ! (2 ∷ 0 ∷ []) $
         -- [the reader; the token; the parameters; _3; …; _2; …; _1; …; room for _0; …]
         use2 W (raw (Next 𝓤 H A mem run .pre to)) (asks-one 𝓤 H A W κ q (readerAt s c) (T′.lowered (readerAt s c))) $

@@ -123,11 +123,11 @@ module _ {M : Type 1} (𝓤 : URA M) (H : Heap 𝓤) (A : Atoms 𝓤) (W : Given
         → ent 𝓤 (onEntry 𝓤 H A ending.signature (κ, tt) (q, tt) (s, (c, tt)) at) (WpFn 𝓤 H Cs Λ code.function (slice s ∷ C′.lowered c ∷ []) Post)
     walk p wc =
         let wd = shr-slice-lawful 𝓤 H A W (named 0) κ u8 .typed s (slice s ∷ []) p .0 in
-        let wr : WT v = (wd .1, (wc .1 .0, (wc .1 .1 .0, (wc .1 .1 .1 .0, tt)))) in
+        let wr : WT v = (wd .1, (wc .1 .0, (wc .1 .1 .0, (wc .1 .1 .1 .0, (wc .1 .1 .1 .1 .0, tt))))) in
         qed W (raw (onEntry 𝓤 H A ending.signature (κ, tt) (q, tt) (s, (c, tt)) at) ∷ []) ∵ enter ! Cs Λ code.function (slice s ∷ C′.lowered c ∷ []) _ $
         alloc1 ! (λ l₀. alloc1 ! (λ l₁. alloc1 ! (λ l₂. alloc1 ! (λ l₃. alloc1 ! (λ l₄. alloc1 ! (λ l₅. alloc1 ! (λ l₆. alloc1 ! (λ l₇. alloc0 ! $ params1 ! $
         pass1 ! (init ! 12 refl wd) $ pass1 ! (init ! 10 refl wc) $ pass0 ! $
-        assigns ! (agg ! (and-then ! (load ! (from ! (stop !)) (look ! 12 refl)) (and-then ! (load ! (from ! (fld ! refl (stop !))) (look-in ! 10 (sub ! 0 refl (whole !)))) (and-then ! (load ! (from ! (fld ! refl (stop !))) (look-in ! 10 (sub ! 1 refl (whole !)))) (and-then ! (load ! (from ! (fld ! refl (stop !))) (look-in ! 10 (sub ! 2 refl (whole !)))) (no-more !)))))) (from ! (stop !)) (init ! 8 refl (tt, wr)) $
+        assigns ! (agg ! (and-then ! (load ! (from ! (stop !)) (look ! 12 refl)) (and-then ! (load ! (from ! (fld ! refl (stop !))) (look-in ! 10 (sub ! 0 refl (whole !)))) (and-then ! (load ! (from ! (fld ! refl (stop !))) (look-in ! 10 (sub ! 1 refl (whole !)))) (and-then ! (load ! (from ! (fld ! refl (stop !))) (look-in ! 10 (sub ! 2 refl (whole !)))) (and-then ! (load ! (from ! (fld ! refl (stop !))) (look-in ! 10 (sub ! 3 refl (whole !)))) (no-more !))))))) (from ! (stop !)) (init ! 8 refl (tt, wr)) $
         assigns ! (of-opd ! (load ! (from ! (stop !)) (look ! 8 refl))) (from ! (stop !)) (init ! 4 refl (tt, wr)) $
         move ! (16 ∷ []) $ use1 W (‵ (Own κ r) ⊛ ((‵ (flft κ q) ⊛ ‵ ftrue) ⊛ ‵ (Both κ s c))) (holds 𝓤 H A W κ q s c) $ split ! $ move ! (1 ∷ []) $ split ! $ move ! (2 ∷ 0 ∷ []) $
         -- [the reader; the token; the parameters; room for _7; …; _5; …; _3; …; _2; …; _1; …; room for _0; …]
