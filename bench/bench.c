@@ -1,5 +1,6 @@
 /* bench: each call of libreader_c beside the plain C version of the same rules, built by gcc and by clang, on the same input in the same run.
- * A line for each: units a second, our time over that of each compiler's plain C, and the ratio of our times at twice the size (2 is linear). */
+ * A line for each: units a second, our time over that of each compiler's plain C, and the ratio of our times at twice the size (2 is linear).
+ * The same answer is the same number, place, second place and destination; damaged planes are compared too. */
 #include <stdio.h>
 #include <stdlib.h>
 #include <string.h>
@@ -23,19 +24,19 @@ static uint8_t box1[FILES], box2[FILES];
 static int32_t full[64 * BLOCKS], old[64 * BLOCKS], out1[3 * PIXELS], out2[3 * PIXELS], base[3 * PIXELS], residual[3 * PIXELS];
 static uint16_t quantisers[64], tables[64 * BLOCKS], merged1[3 * PIXELS], merged2[3 * PIXELS];
 static uint32_t owed1[64 * BLOCKS], owed2[64 * BLOCKS];
-static uint64_t place1, place2;
+static uint64_t place1, place2, second1, second2;
 static size_t file_len;
 static int bad;
 
-typedef uint32_t (*run)(size_t size, uint64_t *place);
+typedef uint32_t (*run)(size_t size, uint64_t *place, uint64_t *second);
 
 /* a call's time: as many calls as last */
-static double seconds(run f, size_t size, uint64_t *place)
+static double seconds(run f, size_t size, uint64_t *place, uint64_t *second)
 {
     int calls = 0;
     double begin = now(), spent;
     do {
-        f(size, place);
+        f(size, place, second);
         calls++;
         spent = now() - begin;
     } while (spent < 0.02);
@@ -52,7 +53,7 @@ static void times(double best[TIMES], run by[TIMES], size_t size)
     for (int t = 0; t < 9; t++)
         for (int k = 0; k < TIMES; k++) {
             if (!by[k]) continue;
-            double spent = seconds(by[k], k == HALF ? size / 2 : size, &place1);
+            double spent = seconds(by[k], k == HALF ? size / 2 : size, &place1, &second1);
             if (spent < best[k]) best[k] = spent;
         }
 }
@@ -63,16 +64,22 @@ static void times(double best[TIMES], run by[TIMES], size_t size)
 #define BOTH(f) gcc_##f, 0
 #endif
 
+/* what plain C never answers: a place that our call left as it is would differ */
+static void unwritten(void) { place1 = second1 = UINT64_MAX; }
+
+static int alike(uint32_t n1, uint32_t n2) { return n1 == n2 && place1 == place2 && second1 == second2; }
+
 static void compare(const char *name, const char *unit, size_t units, size_t size, run ours, run gcc, run clang, const void *a, const void *b, size_t bytes)
 {
     double t[TIMES];
     run by[TIMES] = {ours, gcc, clang, ours};
-    uint32_t n1 = ours(size, &place1), n2 = gcc(size, &place2);
-    int same = n1 == n2 && place1 == place2 && memcmp(a, b, bytes) == 0;
+    unwritten();
+    uint32_t n1 = ours(size, &place1, &second1), n2 = gcc(size, &place2, &second2);
+    int same = alike(n1, n2) && memcmp(a, b, bytes) == 0;
     if (clang) {
         memset((void *)b, 0x5A, bytes);
-        n2 = clang(size, &place2);
-        same &= n1 == n2 && place1 == place2 && memcmp(a, b, bytes) == 0;
+        n2 = clang(size, &place2, &second2);
+        same &= alike(n1, n2) && memcmp(a, b, bytes) == 0;
     }
     bad += !same;
     times(t, by, size);
@@ -82,44 +89,44 @@ static void compare(const char *name, const char *unit, size_t units, size_t siz
     fflush(stdout);
 }
 
-static uint32_t w_dc(size_t n, uint64_t *p) { return xt_write_dc_plane(4, n, full, n, data, sizeof data, p); }
-static uint32_t r_dc(size_t n, uint64_t *p) { return xt_read_dc_plane(4, n, data, (n + 7) / 8, old, n, out1, n, p); }
-static uint32_t w_ac(size_t n, uint64_t *p) { return xt_write_ac_plane(4, n, counts, 16, codes, 32, full, 63 * n, data, sizeof data, p); }
-static size_t length_for(size_t n) { static size_t whole, half; if (!whole) { uint64_t p; w_ac(BLOCKS, &p); whole = p; w_ac(BLOCKS / 2, &p); half = p; w_ac(BLOCKS, &p); } return n == BLOCKS ? whole : half; }
+static uint32_t w_dc(size_t n, uint64_t *p, uint64_t *s) { return xt_write_dc_plane(4, n, full, n, data, sizeof data, p, s); }
+static uint32_t r_dc(size_t n, uint64_t *p, uint64_t *s) { return xt_read_dc_plane(4, n, data, (n + 7) / 8, old, n, out1, n, p, s); }
+static uint32_t w_ac(size_t n, uint64_t *p, uint64_t *s) { return xt_write_ac_plane(4, n, counts, 16, codes, 32, full, 63 * n, data, sizeof data, p, s); }
+static size_t length_for(size_t n) { static size_t whole, half; if (!whole) { uint64_t p, s; w_ac(BLOCKS, &p, &s); whole = p; w_ac(BLOCKS / 2, &p, &s); half = p; w_ac(BLOCKS, &p, &s); } return n == BLOCKS ? whole : half; }
 static uint8_t halfway[1 << 20];
 static const uint8_t *coded_for(size_t n) { return n == BLOCKS ? data : halfway; }
-static uint32_t r_ac(size_t n, uint64_t *p) { return xt_read_ac_plane(4, n, counts, 16, codes, 32, coded_for(n), length_for(n), old, 63 * n, out1, 63 * n, p); }
-static uint32_t it(size_t n, uint64_t *p) { return xt_inverse_transform(4, n, full, 64 * n, quantisers, 64, out1, 64 * n, p); }
+static uint32_t r_ac(size_t n, uint64_t *p, uint64_t *s) { return xt_read_ac_plane(4, n, counts, 16, codes, 32, coded_for(n), length_for(n), old, 63 * n, out1, 63 * n, p, s); }
+static uint32_t it(size_t n, uint64_t *p, uint64_t *s) { return xt_inverse_transform(4, n, full, 64 * n, quantisers, 64, out1, 64 * n, p, s); }
 /* a call has no size: n of them, each with a table of its own, 0 to 4 planes left in turn */
-typedef uint32_t (*owes)(uint32_t, const uint16_t *, size_t, uint32_t *, size_t, uint64_t *);
-static uint32_t owed_by(owes f, uint32_t *owed, size_t n, uint64_t *p)
+typedef uint32_t (*owes)(uint32_t, const uint16_t *, size_t, uint32_t *, size_t, uint64_t *, uint64_t *);
+static uint32_t owed_by(owes f, uint32_t *owed, size_t n, uint64_t *p, uint64_t *s)
 {
     uint32_t number = 0;
-    for (size_t i = 0; i < n; i++) number |= f((uint32_t)(i % 5), tables + 64 * i, 64, owed + 64 * i, 64, p);
+    for (size_t i = 0; i < n; i++) number |= f((uint32_t)(i % 5), tables + 64 * i, 64, owed + 64 * i, 64, p, s);
     return number;
 }
-static uint32_t po(size_t n, uint64_t *p) { return owed_by(xt_preview_owes, owed1, n, p); }
-static uint32_t mg(size_t n, uint64_t *p) { return xt_merge(8, 4, 4, 3, n, 1, 0, 0, 1, 1, base, 3 * n, residual, 3 * n, quantisers, 0, (const int16_t *)quantisers, 0, merged1, 3 * n, p); }
-static uint32_t mg1(size_t n, uint64_t *p) { return xt_merge(8, 0, 0, 1, n, 0, 0, 0, 0, 0, base, n, residual, 0, quantisers, 0, (const int16_t *)quantisers, 0, merged1, n, p); }
+static uint32_t po(size_t n, uint64_t *p, uint64_t *s) { return owed_by(xt_preview_owes, owed1, n, p, s); }
+static uint32_t mg(size_t n, uint64_t *p, uint64_t *s) { return xt_merge(8, 4, 4, 3, n, 1, 0, 0, 1, 1, base, 3 * n, residual, 3 * n, quantisers, 0, (const int16_t *)quantisers, 0, merged1, 3 * n, p, s); }
+static uint32_t mg1(size_t n, uint64_t *p, uint64_t *s) { return xt_merge(8, 0, 0, 1, n, 0, 0, 0, 0, 0, base, n, residual, 0, quantisers, 0, (const int16_t *)quantisers, 0, merged1, n, p, s); }
 
 /* `size` bytes of box in packets of `each`, in file order or backward */
 static size_t each, backward, lost;
 static size_t made;
 static void made_for(size_t size);
-static uint32_t bx(size_t n, uint64_t *p) { made_for(n); return xt_box_bytes(file, file_len, 0x46494E45, 1, box1, sizeof box1, p); }
-static uint32_t ls(size_t n, uint64_t *p) { made_for(n); return xt_list_packets(file, file_len, box1, sizeof box1, p); }
+static uint32_t bx(size_t n, uint64_t *p, uint64_t *s) { made_for(n); return xt_box_bytes(file, file_len, 0x46494E45, 1, box1, sizeof box1, p, s); }
+static uint32_t ls(size_t n, uint64_t *p, uint64_t *s) { made_for(n); return xt_list_packets(file, file_len, box1, sizeof box1, p, s); }
 
 #define RUNS(by) \
-    static uint32_t by##_w_dc(size_t n, uint64_t *p) { return by##_write_dc(4, n, full, n, other, sizeof other, p); } \
-    static uint32_t by##_r_dc(size_t n, uint64_t *p) { return by##_read_dc(4, n, data, (n + 7) / 8, old, n, out2, n, p); } \
-    static uint32_t by##_w_ac(size_t n, uint64_t *p) { return by##_write_ac(4, n, counts, 16, codes, 32, full, 63 * n, other, sizeof other, p); } \
-    static uint32_t by##_r_ac(size_t n, uint64_t *p) { return by##_read_ac(4, n, counts, 16, codes, 32, coded_for(n), length_for(n), old, 63 * n, out2, 63 * n, p); } \
-    static uint32_t by##_it(size_t n, uint64_t *p) { return by##_inverse_transform(4, n, full, 64 * n, quantisers, 64, out2, 64 * n, p); } \
-    static uint32_t by##_po(size_t n, uint64_t *p) { return owed_by(by##_preview_owes, owed2, n, p); } \
-    static uint32_t by##_mg(size_t n, uint64_t *p) { return by##_merge(8, 4, 4, 3, n, 1, 1, base, 3 * n, residual, 3 * n, merged2, 3 * n, p); } \
-    static uint32_t by##_mg1(size_t n, uint64_t *p) { return by##_merge(8, 0, 0, 1, n, 0, 0, base, n, residual, 0, merged2, n, p); } \
-    static uint32_t by##_bx(size_t n, uint64_t *p) { made_for(n); return by##_box_bytes(file, file_len, 0x46494E45, 1, box2, sizeof box2, p); } \
-    static uint32_t by##_ls(size_t n, uint64_t *p) { made_for(n); return by##_list_packets(file, file_len, box2, sizeof box2, p); }
+    static uint32_t by##_w_dc(size_t n, uint64_t *p, uint64_t *s) { return by##_write_dc(4, n, full, n, other, sizeof other, p, s); } \
+    static uint32_t by##_r_dc(size_t n, uint64_t *p, uint64_t *s) { return by##_read_dc(4, n, data, (n + 7) / 8, old, n, out2, n, p, s); } \
+    static uint32_t by##_w_ac(size_t n, uint64_t *p, uint64_t *s) { return by##_write_ac(4, n, counts, 16, codes, 32, full, 63 * n, other, sizeof other, p, s); } \
+    static uint32_t by##_r_ac(size_t n, uint64_t *p, uint64_t *s) { return by##_read_ac(4, n, counts, 16, codes, 32, coded_for(n), length_for(n), old, 63 * n, out2, 63 * n, p, s); } \
+    static uint32_t by##_it(size_t n, uint64_t *p, uint64_t *s) { return by##_inverse_transform(4, n, full, 64 * n, quantisers, 64, out2, 64 * n, p, s); } \
+    static uint32_t by##_po(size_t n, uint64_t *p, uint64_t *s) { return owed_by(by##_preview_owes, owed2, n, p, s); } \
+    static uint32_t by##_mg(size_t n, uint64_t *p, uint64_t *s) { return by##_merge(8, 4, 4, 3, n, 1, 1, base, 3 * n, residual, 3 * n, merged2, 3 * n, p, s); } \
+    static uint32_t by##_mg1(size_t n, uint64_t *p, uint64_t *s) { return by##_merge(8, 0, 0, 1, n, 0, 0, base, n, residual, 0, merged2, n, p, s); } \
+    static uint32_t by##_bx(size_t n, uint64_t *p, uint64_t *s) { made_for(n); return by##_box_bytes(file, file_len, 0x46494E45, 1, box2, sizeof box2, p, s); } \
+    static uint32_t by##_ls(size_t n, uint64_t *p, uint64_t *s) { made_for(n); return by##_list_packets(file, file_len, box2, sizeof box2, p, s); }
 RUNS(gcc)
 #ifdef BY_CLANG
 RUNS(clang)
@@ -167,6 +174,71 @@ static void growth(void)
     }
 }
 
+/* ---- damaged planes: no time is taken, only the answers are compared */
+
+enum { TRIED = 20000, FEW = 6, ROOM = 63 * FEW };
+static size_t met[23];
+
+/* the `len` bytes of a sound plane cut, or up to two of them altered: the length that is left */
+static size_t damage(uint8_t *bytes, size_t len)
+{
+    if (len && rnd(4) == 0) len = rnd((uint32_t)len);
+    for (uint32_t k = rnd(3); len && k; k--) bytes[rnd((uint32_t)len)] = (uint8_t)(rnd(3) ? rnd(256) : 0xFF);
+    return len;
+}
+
+/* an answer of plain C beside ours (n1, in out1) */
+static int as_ours(uint32_t n1, uint32_t n2) { return alike(n1, n2) && memcmp(out1, out2, 4 * ROOM) == 0; }
+
+static int damaged_dc(uint8_t *bytes, size_t n)
+{
+    static int32_t halves[ROOM];
+    for (size_t i = 0; i < n; i++) halves[i] = full[i] >> 1;
+    xt_write_dc_plane(4, n, full, n, bytes, 2 * ROOM, &place1, &second1);
+    size_t len = damage(bytes, (size_t)place1);
+    unwritten();
+    uint32_t n1 = xt_read_dc_plane(4, n, bytes, len, halves, n, out1, ROOM, &place1, &second1);
+    met[n1]++;
+    int same = as_ours(n1, gcc_read_dc(4, n, bytes, len, halves, n, out2, ROOM, &place2, &second2));
+#ifdef BY_CLANG
+    same &= as_ours(n1, clang_read_dc(4, n, bytes, len, halves, n, out2, ROOM, &place2, &second2));
+#endif
+    return same;
+}
+
+static int damaged_ac(uint8_t *bytes, size_t n, const int32_t *from, const int32_t *halves)
+{
+    /* two codes more than the writer's table, which refinement does not use (15) */
+    static uint8_t more[34] = {[32] = 0x02, [33] = 0x35}, lengths[16] = {[5] = 34};
+    memcpy(more, codes, 32);
+    xt_write_ac_plane(4, n, counts, 16, codes, 32, from, 63 * n, bytes, 2 * ROOM, &place1, &second1);
+    size_t len = damage(bytes, (size_t)place1);
+    unwritten();
+    uint32_t n1 = xt_read_ac_plane(4, n, lengths, 16, more, 34, bytes, len, halves, 63 * n, out1, ROOM, &place1, &second1);
+    met[n1]++;
+    int same = as_ours(n1, gcc_read_ac(4, n, lengths, 16, more, 34, bytes, len, halves, 63 * n, out2, ROOM, &place2, &second2));
+#ifdef BY_CLANG
+    same &= as_ours(n1, clang_read_ac(4, n, lengths, 16, more, 34, bytes, len, halves, 63 * n, out2, ROOM, &place2, &second2));
+#endif
+    return same;
+}
+
+/* 12 to 17 name a byte of the data: ours and plain C name the same */
+static void damaged(void)
+{
+    static uint8_t bytes[2 * ROOM];
+    int same = 0;
+    for (int t = 0; t < TRIED; t++) {
+        size_t n = 1 + rnd(FEW), at = 63 * rnd(BLOCKS - FEW);
+        same += t % 4 ? damaged_ac(bytes, n, full + at, old + at) : damaged_dc(bytes, 1 + rnd(ROOM));
+    }
+    bad += same != TRIED;
+    printf("\n%d damaged planes, %d with the same number, place, second place and values; numbers met:", TRIED, same);
+    for (size_t k = 0; k < sizeof met / sizeof met[0]; k++)
+        if (met[k]) printf(" %zu: %zu", k, met[k]);
+    printf("\n");
+}
+
 static void boxes_of(size_t bytes, size_t backwards, const char *name, size_t size)
 {
     each = bytes;
@@ -195,12 +267,12 @@ int main(void)
     printf("| call | ours, units/s | unit | our time / gcc -O2 | our time / clang -O3 | at twice the size | same answer |\n|---|---|---|---|---|---|---|\n");
     compare("xt_write_dc_plane, 1,024 blocks", "values", BLOCKS, BLOCKS, w_dc, BOTH(w_dc), data, other, BLOCKS / 8);
     for (size_t i = 0; i < BLOCKS; i++) old[i] = full[i] >> 1;
-    w_dc(BLOCKS, &place1);
+    w_dc(BLOCKS, &place1, &second1);
     compare("xt_read_dc_plane, 1,024 blocks", "values", BLOCKS, BLOCKS, r_dc, BOTH(r_dc), out1, out2, 4 * BLOCKS);
     for (size_t i = 0; i < 64 * BLOCKS; i++) old[i] = full[i] / 2;
     compare("xt_write_ac_plane, 1,024 blocks", "values", 63 * BLOCKS, BLOCKS, w_ac, BOTH(w_ac), data, other, 1000);
     length_for(BLOCKS);
-    { uint64_t p; xt_write_ac_plane(4, BLOCKS / 2, counts, 16, codes, 32, full, 63 * BLOCKS / 2, halfway, sizeof halfway, &p); w_ac(BLOCKS, &p); }
+    { uint64_t p, s; xt_write_ac_plane(4, BLOCKS / 2, counts, 16, codes, 32, full, 63 * BLOCKS / 2, halfway, sizeof halfway, &p, &s); w_ac(BLOCKS, &p, &s); }
     compare("xt_read_ac_plane, 1,024 blocks", "values", 63 * BLOCKS, BLOCKS, r_ac, BOTH(r_ac), out1, out2, 4 * 63 * BLOCKS);
     compare("xt_inverse_transform, 1,024 blocks", "values", 64 * BLOCKS, BLOCKS, it, BOTH(it), out1, out2, 4 * 64 * BLOCKS);
     for (size_t i = 0; i < 64 * BLOCKS; i++) tables[i] = (uint16_t)(1 + i * i % 251);
@@ -215,6 +287,7 @@ int main(void)
     each = 20; backward = 0; made = 0;
     compare("xt_list_packets, packets of 20 bytes", "bytes", 30000, 30000, ls, BOTH(ls), box1, box2, 20000);
     growth();
+    damaged();
     printf("\n%d differ\n", bad);
     return bad != 0;
 }

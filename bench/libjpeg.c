@@ -63,12 +63,12 @@ int main(int argc, char **argv)
     size_t codes = 0;
     for (int i = 0; i < 16; i++) codes += scan[i];
     coefficients(cut, cut_len, 1);
-    uint64_t place = 0;
+    uint64_t place = 0, second = 0;
     uint32_t number = 0;
     double least = 1e9;
     for (int t = 0; t < 60; t++) {
         double begin = now();
-        number = xt_read_ac_plane(1, blocks, scan, 16, scan + 16, codes, scan + 16 + codes, scan_len - 16 - codes, values, 63 * blocks, out, 63 * blocks, &place);
+        number = xt_read_ac_plane(1, blocks, scan, 16, scan + 16, codes, scan + 16 + codes, scan_len - 16 - codes, values, 63 * blocks, out, 63 * blocks, &place, &second);
         double spent = now() - begin;
         if (spent < least) least = spent;
     }

@@ -4,11 +4,19 @@
 #include <string.h>
 #include "plain.h"
 
-static uint32_t refused(uint32_t number, uint64_t at, void *destination, size_t bytes, uint64_t *place)
+static uint32_t refused(uint32_t number, uint64_t at, void *destination, size_t bytes, uint64_t *place, uint64_t *second)
 {
     memset(destination, 0, bytes);
     *place = at;
+    *second = 0;
     return number;
+}
+
+static uint32_t done(uint64_t count, uint64_t *place, uint64_t *second)
+{
+    *place = count;
+    *second = 0;
+    return 0;
 }
 
 /* ---- bits */
@@ -33,6 +41,14 @@ static int bit(bits *b)
 }
 
 static int only_padding(const bits *b) { return (b->byte | ~0u << b->left) == ~0u && b->at == b->len; }
+
+/* The second place. 12: the data's length; 13: its FF; else the byte of the last bit asked for: an FF, never the 00 behind it. */
+static uint32_t stopped(int number, size_t block, const bits *b, int32_t *out, size_t bytes, uint64_t *place, uint64_t *second)
+{
+    refused((uint32_t)number, block, out, bytes, place, second);
+    *second = number == 12 ? b->len : number == 13 ? b->at : b->at - (b->byte == 0xFF ? 2 : 1);
+    return (uint32_t)number;
+}
 
 typedef struct { uint8_t *out; size_t room, at; unsigned held, count; } putter;
 
@@ -75,37 +91,35 @@ static size_t first_outside(const int32_t *v, size_t n, unsigned level, int dc)
     return n;
 }
 
-uint32_t PLAIN(read_dc)(uint32_t plane, size_t blocks, const uint8_t *data, size_t data_len, const int32_t *values, size_t n, int32_t *out, size_t room, uint64_t *place)
+uint32_t PLAIN(read_dc)(uint32_t plane, size_t blocks, const uint8_t *data, size_t data_len, const int32_t *values, size_t n, int32_t *out, size_t room, uint64_t *place, uint64_t *second)
 {
     size_t bytes = room * sizeof *out;
-    if (plane < 1 || plane > 4 || blocks > 1024) return refused(20, 0, out, bytes, place);
-    if (n != blocks) return refused(21, 0, out, bytes, place);
+    if (plane < 1 || plane > 4 || blocks > 1024) return refused(20, 0, out, bytes, place, second);
+    if (n != blocks) return refused(21, 0, out, bytes, place, second);
     size_t bad = first_outside(values, n, plane - 1, 1);
-    if (bad < n) return refused(11, bad, out, bytes, place);
-    if (room < n) return refused(9, n, out, bytes, place);
+    if (bad < n) return refused(11, bad, out, bytes, place, second);
+    if (room < n) return refused(9, n, out, bytes, place, second);
     bits b = {data, data_len, 0, 0, 0};
     for (size_t i = 0; i < n; i++) {
         int t = bit(&b);
-        if (t < 0) return refused((uint32_t)-t, i, out, bytes, place);
+        if (t < 0) return stopped(-t, i, &b, out, bytes, place, second);
         out[i] = 2 * values[i] + t;
     }
-    if (!only_padding(&b)) return refused(18, b.at, out, bytes, place);
-    *place = n;
-    return 0;
+    if (!only_padding(&b)) return refused(18, b.at, out, bytes, place, second);
+    return done(n, place, second);
 }
 
-uint32_t PLAIN(write_dc)(uint32_t plane, size_t blocks, const int32_t *values, size_t n, uint8_t *out, size_t room, uint64_t *place)
+uint32_t PLAIN(write_dc)(uint32_t plane, size_t blocks, const int32_t *values, size_t n, uint8_t *out, size_t room, uint64_t *place, uint64_t *second)
 {
-    if (plane < 1 || plane > 4 || blocks > 1024) return refused(20, 0, out, room, place);
-    if (n != blocks) return refused(21, 0, out, room, place);
+    if (plane < 1 || plane > 4 || blocks > 1024) return refused(20, 0, out, room, place, second);
+    if (n != blocks) return refused(21, 0, out, room, place, second);
     size_t bad = first_outside(values, n, plane, 1);
-    if (bad < n) return refused(11, bad, out, room, place);
+    if (bad < n) return refused(11, bad, out, room, place, second);
     putter p = {out, room, 0, 0, 0};
     for (size_t i = 0; i < n; i++) put(&p, (unsigned)values[i] & 1);
     pad(&p);
-    if (p.at > room) return refused(9, p.at, out, room, place);
-    *place = p.at;
-    return 0;
+    if (p.at > room) return refused(9, p.at, out, room, place, second);
+    return done(p.at, place, second);
 }
 
 /* ---- AC planes */
@@ -140,15 +154,15 @@ static int take_code(bits *b, const uint8_t *counts, const uint8_t *codes)
 }
 
 uint32_t PLAIN(read_ac)(uint32_t plane, size_t blocks, const uint8_t *counts, size_t nc, const uint8_t *codes, size_t nv, const uint8_t *data, size_t data_len,
-                       const int32_t *values, size_t n, int32_t *out, size_t room, uint64_t *place)
+                       const int32_t *values, size_t n, int32_t *out, size_t room, uint64_t *place, uint64_t *second)
 {
     size_t bytes = room * sizeof *out;
-    if (plane < 1 || plane > 4 || blocks > 1024) return refused(20, 0, out, bytes, place);
-    if (n != 63 * blocks) return refused(21, 0, out, bytes, place);
-    if (!good_table(counts, nc, codes, nv)) return refused(10, 0, out, bytes, place);
+    if (plane < 1 || plane > 4 || blocks > 1024) return refused(20, 0, out, bytes, place, second);
+    if (n != 63 * blocks) return refused(21, 0, out, bytes, place, second);
+    if (!good_table(counts, nc, codes, nv)) return refused(10, 0, out, bytes, place, second);
     size_t bad = first_outside(values, n, plane - 1, 0);
-    if (bad < n) return refused(11, bad, out, bytes, place);
-    if (room < n) return refused(9, n, out, bytes, place);
+    if (bad < n) return refused(11, bad, out, bytes, place, second);
+    if (room < n) return refused(9, n, out, bytes, place, second);
     bits b = {data, data_len, 0, 0, 0};
     size_t run = 0;
     for (size_t k = 0; k < blocks; k++) {
@@ -157,26 +171,26 @@ uint32_t PLAIN(read_ac)(uint32_t plane, size_t blocks, const uint8_t *counts, si
         int p = 0, t = 0;
         while (p < 63 && !run) {
             int code = take_code(&b, counts, codes);
-            if (code < 0) return refused((uint32_t)-code, k, out, bytes, place);
+            if (code < 0) return stopped(-code, k, &b, out, bytes, place, second);
             int r = code >> 4, s = code & 15, fresh = 0, zeros = r;
-            if (s > 1) return refused(15, k, out, bytes, place);
+            if (s > 1) return stopped(15, k, &b, out, bytes, place, second);
             if (s == 0 && r < 15) {
                 unsigned e = 0;
                 for (int i = 0; i < r; i++) {
-                    if ((t = bit(&b)) < 0) return refused((uint32_t)-t, k, out, bytes, place);
+                    if ((t = bit(&b)) < 0) return stopped(-t, k, &b, out, bytes, place, second);
                     e = 2 * e + (unsigned)t;
                 }
                 run = ((size_t)1 << r) + e;
-                if (run > blocks - k) return refused(17, k, out, bytes, place);
+                if (run > blocks - k) return stopped(17, k, &b, out, bytes, place, second);
                 break;
             }
             if (s == 1) {
-                if ((t = bit(&b)) < 0) return refused((uint32_t)-t, k, out, bytes, place);
+                if ((t = bit(&b)) < 0) return stopped(-t, k, &b, out, bytes, place, second);
                 fresh = t ? 1 : -1;
             }
             for (; p < 63; p++) {
                 if (in[p]) {
-                    if ((t = bit(&b)) < 0) return refused((uint32_t)-t, k, out, bytes, place);
+                    if ((t = bit(&b)) < 0) return stopped(-t, k, &b, out, bytes, place, second);
                     to[p] = 2 * in[p] + (in[p] > 0 ? t : -t);
                 } else if (zeros-- == 0) {
                     to[p] = fresh;
@@ -185,23 +199,22 @@ uint32_t PLAIN(read_ac)(uint32_t plane, size_t blocks, const uint8_t *counts, si
                     to[p] = 0;
                 }
             }
-            if (p == 63) return refused(16, k, out, bytes, place);
+            if (p == 63) return stopped(16, k, &b, out, bytes, place, second);
             p++;
         }
         if (run) {
             for (; p < 63; p++) {
                 to[p] = 0;
                 if (in[p]) {
-                    if ((t = bit(&b)) < 0) return refused((uint32_t)-t, k, out, bytes, place);
+                    if ((t = bit(&b)) < 0) return stopped(-t, k, &b, out, bytes, place, second);
                     to[p] = 2 * in[p] + (in[p] > 0 ? t : -t);
                 }
             }
             run--;
         }
     }
-    if (!only_padding(&b)) return refused(18, b.at, out, bytes, place);
-    *place = n;
-    return 0;
+    if (!only_padding(&b)) return refused(18, b.at, out, bytes, place, second);
+    return done(n, place, second);
 }
 
 typedef struct { uint16_t number[256]; uint8_t size[256]; int missing; } coder;
@@ -233,13 +246,13 @@ static int last_new(const int32_t *b)
 
 static unsigned magnitude(int32_t v) { return v < 0 ? 0u - (unsigned)v : (unsigned)v; }
 
-uint32_t PLAIN(write_ac)(uint32_t plane, size_t blocks, const uint8_t *counts, size_t nc, const uint8_t *codes, size_t nv, const int32_t *values, size_t n, uint8_t *out, size_t room, uint64_t *place)
+uint32_t PLAIN(write_ac)(uint32_t plane, size_t blocks, const uint8_t *counts, size_t nc, const uint8_t *codes, size_t nv, const int32_t *values, size_t n, uint8_t *out, size_t room, uint64_t *place, uint64_t *second)
 {
-    if (plane < 1 || plane > 4 || blocks > 1024) return refused(20, 0, out, room, place);
-    if (n != 63 * blocks) return refused(21, 0, out, room, place);
-    if (!good_table(counts, nc, codes, nv)) return refused(10, 0, out, room, place);
+    if (plane < 1 || plane > 4 || blocks > 1024) return refused(20, 0, out, room, place, second);
+    if (n != 63 * blocks) return refused(21, 0, out, room, place, second);
+    if (!good_table(counts, nc, codes, nv)) return refused(10, 0, out, room, place, second);
     size_t bad = first_outside(values, n, plane, 0);
-    if (bad < n) return refused(11, bad, out, room, place);
+    if (bad < n) return refused(11, bad, out, room, place, second);
     coder c;
     assign(&c, counts, codes);
     putter q = {out, room, 0, 0, 0};
@@ -273,10 +286,9 @@ uint32_t PLAIN(write_ac)(uint32_t plane, size_t blocks, const uint8_t *counts, s
         if (run) run--;
     }
     pad(&q);
-    if (c.missing >= 0) return refused(19, (uint64_t)c.missing, out, room, place);
-    if (q.at > room) return refused(9, q.at, out, room, place);
-    *place = q.at;
-    return 0;
+    if (c.missing >= 0) return refused(19, (uint64_t)c.missing, out, room, place, second);
+    if (q.at > room) return refused(9, q.at, out, room, place, second);
+    return done(q.at, place, second);
 }
 
 /* ---- the inverse transform: the double sum of 64 products */
@@ -294,17 +306,17 @@ static int32_t kernel(int x, int u)
     return m > 8 ? -cosines[16 - m] : cosines[m];
 }
 
-uint32_t PLAIN(inverse_transform)(uint32_t r, size_t blocks, const int32_t *values, size_t n, const uint16_t *q, size_t nq, int32_t *out, size_t room, uint64_t *place)
+uint32_t PLAIN(inverse_transform)(uint32_t r, size_t blocks, const int32_t *values, size_t n, const uint16_t *q, size_t nq, int32_t *out, size_t room, uint64_t *place, uint64_t *second)
 {
     size_t bytes = room * sizeof *out;
-    if (r > 4 || blocks > 1024) return refused(20, 0, out, bytes, place);
-    if (n != 64 * blocks || nq != 64) return refused(21, 0, out, bytes, place);
+    if (r > 4 || blocks > 1024) return refused(20, 0, out, bytes, place, second);
+    if (n != 64 * blocks || nq != 64) return refused(21, 0, out, bytes, place, second);
     for (size_t i = 0; i < 64; i++)
-        if (q[i] < 1 || q[i] > 255) return refused(22, i, out, bytes, place);
+        if (q[i] < 1 || q[i] > 255) return refused(22, i, out, bytes, place, second);
     int32_t high = 1 << (11 + r);
     for (size_t i = 0; i < n; i++)
-        if (values[i] >= high || values[i] < (i % 64 ? 1 - high : -high)) return refused(11, i, out, bytes, place);
-    if (room < n) return refused(9, n, out, bytes, place);
+        if (values[i] >= high || values[i] < (i % 64 ? 1 - high : -high)) return refused(11, i, out, bytes, place, second);
+    if (room < n) return refused(9, n, out, bytes, place, second);
     int64_t k[8][8], s[8][8];
     for (int x = 0; x < 8; x++)
         for (int u = 0; u < 8; u++) k[x][u] = kernel(x, u);
@@ -318,8 +330,7 @@ uint32_t PLAIN(inverse_transform)(uint32_t r, size_t blocks, const int32_t *valu
                 out[64 * b + 8 * y + x] = (int32_t)((sum >> 28) + (128 << r));
             }
     }
-    *place = n;
-    return 0;
+    return done(n, place, second);
 }
 
 /* ---- what a preview owes: the sums of |K(x,u) K(y,v)| q, by rows first */
@@ -330,14 +341,14 @@ static const uint16_t magnitudes[8][8] = {
     {5793, 1598, 7568, 4551, 5793, 6811, 3135, 8035}, {5793, 4551, 3135, 8035, 5793, 1598, 7568, 6811},
     {5793, 6811, 3135, 1598, 5793, 8035, 7568, 4551}, {5793, 8035, 7568, 6811, 5793, 4551, 3135, 1598}};
 
-uint32_t PLAIN(preview_owes)(uint32_t left, const uint16_t *q, size_t nq, uint32_t *out, size_t room, uint64_t *place)
+uint32_t PLAIN(preview_owes)(uint32_t left, const uint16_t *q, size_t nq, uint32_t *out, size_t room, uint64_t *place, uint64_t *second)
 {
     size_t bytes = room * sizeof *out;
-    if (left > 4) return refused(20, 0, out, bytes, place);
-    if (nq != 64) return refused(21, 0, out, bytes, place);
+    if (left > 4) return refused(20, 0, out, bytes, place, second);
+    if (nq != 64) return refused(21, 0, out, bytes, place, second);
     for (size_t i = 0; i < 64; i++)
-        if (q[i] < 1 || q[i] > 255) return refused(22, i, out, bytes, place);
-    if (room < 64) return refused(9, 64, out, bytes, place);
+        if (q[i] < 1 || q[i] > 255) return refused(22, i, out, bytes, place, second);
+    if (room < 64) return refused(9, 64, out, bytes, place, second);
     uint32_t table[8][8], rows[8][8];
     for (int i = 0; i < 64; i++) table[natural[i] / 8][natural[i] % 8] = q[i];
     for (int v = 0; v < 8; v++)
@@ -353,8 +364,7 @@ uint32_t PLAIN(preview_owes)(uint32_t left, const uint16_t *q, size_t nq, uint32
             for (int v = 0; v < 8; v++) weight += (uint64_t)magnitudes[y][v] * rows[v][x];
             out[8 * y + x] = (uint32_t)((2 * (d - 1) * weight + ((d + 1) << 28) - 1) >> 29);
         }
-    *place = 64;
-    return 0;
+    return done(64, place, second);
 }
 
 /* ---- boxes: the packets of one type and instance, sorted by number */
@@ -374,22 +384,22 @@ static uint32_t be(const uint8_t *p, int n)
     return v;
 }
 
-uint32_t PLAIN(box_bytes)(const uint8_t *file, size_t len, uint32_t type, uint16_t instance, uint8_t *out, size_t room, uint64_t *place)
+uint32_t PLAIN(box_bytes)(const uint8_t *file, size_t len, uint32_t type, uint16_t instance, uint8_t *out, size_t room, uint64_t *place, uint64_t *second)
 {
     static packet packets[1 << 20];
     size_t n = 0, at = 2, total = 0;
-    if (len < 2 || file[0] != 0xFF || file[1] != 0xD8) return refused(1, 0, out, room, place);
+    if (len < 2 || file[0] != 0xFF || file[1] != 0xD8) return refused(1, 0, out, room, place, second);
     for (;;) {
         size_t m = at;
         while (m < len && file[m] == 0xFF) m++;
-        if (m == at || m >= len) return refused(2, at, out, room, place);
+        if (m == at || m >= len) return refused(2, at, out, room, place, second);
         unsigned marker = file[m];
         if (marker == 0xDA) break;
-        if (marker <= 1 || (marker >= 0xD0 && marker <= 0xD9) || m + 3 > len) return refused(2, at, out, room, place);
+        if (marker <= 1 || (marker >= 0xD0 && marker <= 0xD9) || m + 3 > len) return refused(2, at, out, room, place, second);
         size_t size = be(file + m + 1, 2);
-        if (size < 2 || m + 1 + size > len) return refused(2, at, out, room, place);
+        if (size < 2 || m + 1 + size > len) return refused(2, at, out, room, place, second);
         if (marker == 0xEB && size >= 4 && file[m + 3] == 0x4A && file[m + 4] == 0x50) {
-            if (size < 18 || be(file + m + 11, 4) < 8) return refused(3, at, out, room, place);
+            if (size < 18 || be(file + m + 11, 4) < 8) return refused(3, at, out, room, place, second);
             if (be(file + m + 5, 2) == instance && be(file + m + 15, 4) == type) {
                 packet p = {be(file + m + 7, 4), be(file + m + 11, 4), file + m + 19, size - 18};
                 packets[n++] = p;
@@ -398,26 +408,25 @@ uint32_t PLAIN(box_bytes)(const uint8_t *file, size_t len, uint32_t type, uint16
         }
         at = m + 1 + size;
     }
-    if (n == 0) return refused(4, 0, out, room, place);
+    if (n == 0) return refused(4, 0, out, room, place, second);
     for (size_t i = 1; i < n; i++)
-        if (packets[i].lbox != packets[0].lbox) return refused(5, 0, out, room, place);
+        if (packets[i].lbox != packets[0].lbox) return refused(5, 0, out, room, place, second);
     int sorted = 1;
     for (size_t i = 1; i < n; i++) sorted &= packets[i - 1].number < packets[i].number;
     if (!sorted) qsort(packets, n, sizeof *packets, by_number);
     for (size_t i = 1; i < n; i++)
-        if (packets[i].number == packets[i - 1].number) return refused(6, packets[i].number, out, room, place);
+        if (packets[i].number == packets[i - 1].number) return refused(6, packets[i].number, out, room, place, second);
     size_t want = 1;
     for (size_t i = 0; i < n; i++) want += packets[i].number == want;
-    if (want <= n) return refused(7, want, out, room, place);
-    if (total != packets[0].lbox - 8) return refused(8, total, out, room, place);
-    if (room < total) return refused(9, total, out, room, place);
+    if (want <= n) return refused(7, want, out, room, place, second);
+    if (total != packets[0].lbox - 8) return refused(8, total, out, room, place, second);
+    if (room < total) return refused(9, total, out, room, place, second);
     size_t to = 0;
     for (size_t i = 0; i < n; i++) {
         memcpy(out + to, packets[i].payload, packets[i].len);
         to += packets[i].len;
     }
-    *place = total;
-    return 0;
+    return done(total, place, second);
 }
 
 /* ---- the listing */
@@ -429,7 +438,7 @@ static size_t text(uint8_t *out, size_t room, size_t at, const char *s)
     return at;
 }
 
-uint32_t PLAIN(list_packets)(const uint8_t *file, size_t len, uint8_t *out, size_t room, uint64_t *place)
+uint32_t PLAIN(list_packets)(const uint8_t *file, size_t len, uint8_t *out, size_t room, uint64_t *place, uint64_t *second)
 {
     char line[80];
     size_t to = text(out, room, 0, "instance number bytes type\n"), begin = to, at = 2;
@@ -463,9 +472,8 @@ uint32_t PLAIN(list_packets)(const uint8_t *file, size_t len, uint8_t *out, size
     if (number) to = begin;
     snprintf(line, sizeof line, "answer %u %zu\n", number, number ? at : 0);
     to = text(out, room, to, line);
-    if (to > room) return refused(9, to, out, room, place);
-    *place = to;
-    return 0;
+    if (to > room) return refused(9, to, out, room, place, second);
+    return done(to, place, second);
 }
 
 /* ---- the merge: straight curve, transforms, no matrix */
@@ -487,12 +495,12 @@ static void coloured(int64_t *v, int64_t centre)
 }
 
 uint32_t PLAIN(merge)(uint32_t rb, uint32_t rh, uint32_t rr, uint32_t components, size_t pixels, int transform, int residual_on, const int32_t *base, size_t nb,
-                     const int32_t *residual, size_t nr, uint16_t *out, size_t room, uint64_t *place)
+                     const int32_t *residual, size_t nr, uint16_t *out, size_t room, uint64_t *place, uint64_t *second)
 {
     size_t bytes = room * sizeof *out, n = components * pixels;
-    if (rb < 1 || rb > 8 || rh > 4 || rr > 4 || (components != 1 && components != 3) || pixels > 65536 || (components == 1 && transform)) return refused(20, 0, out, bytes, place);
-    if (nb != n || nr != (residual_on ? n : 0)) return refused(21, 0, out, bytes, place);
-    if (room < n) return refused(9, n, out, bytes, place);
+    if (rb < 1 || rb > 8 || rh > 4 || rr > 4 || (components != 1 && components != 3) || pixels > 65536 || (components == 1 && transform)) return refused(20, 0, out, bytes, place, second);
+    if (nb != n || nr != (residual_on ? n : 0)) return refused(21, 0, out, bytes, place, second);
+    if (room < n) return refused(9, n, out, bytes, place, second);
     int64_t low = (1 << (8 + rh)) - 1, high = (1 << (8 + rb)) - 1, centre = 1 << (7 + rb);
     for (size_t p = 0; p < pixels; p++) {
         int64_t v[3], w[3];
@@ -509,6 +517,5 @@ uint32_t PLAIN(merge)(uint32_t rb, uint32_t rh, uint32_t rr, uint32_t components
         }
         for (uint32_t c = 0; c < components; c++) out[c * pixels + p] = (uint16_t)clip(v[c], high);
     }
-    *place = n;
-    return 0;
+    return done(n, place, second);
 }

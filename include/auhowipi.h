@@ -1,12 +1,13 @@
 /* A proved reader and writer for JPEG XT finish pictures: the calls of libreader_c.a (made by `rt staticlib reader_c`).
  * Letters with numbers, as C1, name the rules of docs/RULES.md.
  *
- * C1: every call ends on every input and checks its own input. It returns a number of the table below and writes a place
- * through its last parameter. With XT_DONE the place is the count of bytes or values written, and everything past the
- * written part of the destination keeps its contents. With any other number the whole lent destination is zeros.
+ * C1: every call ends on every input and checks its own input. It returns a number of the table below and writes a place and
+ * a second place through its last two parameters. With XT_DONE the place is the count of bytes or values written, and
+ * everything past the written part of the destination keeps its contents. With any other number the whole lent destination is
+ * zeros. The second place of XT_ENDED to XT_RUN is an offset in the coded data, from 0: the byte to look at.
  *
  * C2: a slice is a pointer and a length in elements. A pointer is never NULL, not even with the length 0; source and
- * destination do not overlap; `place` points to a uint64_t. Blocks and indices count from 0.
+ * destination do not overlap; `place` and `second` each point to a uint64_t of their own. Blocks and indices count from 0.
  */
 #ifndef AUHOWIPI_H
 #define AUHOWIPI_H
@@ -18,31 +19,34 @@
 extern "C" {
 #endif
 
-/*   number                      meaning                                                    place */
+/* The second place is 0 where its column is empty. The last bit is the last one asked for; its byte is the one that it came
+ * from: an FF, never the 00 behind it.
+ *
+ *   number                     meaning                                               place                      second place */
 enum {
-    XT_DONE = 0,              /* done                                                       count written */
-    XT_NOT_A_PICTURE = 1,     /* does not begin FF D8                                       0 */
-    XT_SEGMENT = 2,           /* segment or marker broken, or no SOS                        where it was to begin */
-    XT_PACKET_HEAD = 3,       /* packet head broken                                         where its segment begins */
-    XT_NO_PACKET = 4,         /* no packet of this type and instance                        0 */
-    XT_DISAGREE = 5,          /* packets disagree on LBox                                   0 */
-    XT_TWICE = 6,             /* a sequence number stands twice                             the smallest such */
-    XT_MISSING = 7,           /* a sequence number is missing                               smallest missing of 1..n */
-    XT_TOTAL = 8,             /* payload total is not LBox-8                                the total */
-    XT_SHORT = 9,             /* destination too short                                      length needed */
-    XT_TABLE = 10,            /* code table bad                                             0 */
-    XT_RANGE = 11,            /* value out of range                                         first index */
-    XT_ENDED = 12,            /* data end early                                             block */
-    XT_MARKER = 13,           /* FF without 00 after it                                     block */
-    XT_NO_CODE = 14,          /* 16 bits and no code                                        block */
-    XT_CODE_UNUSED = 15,      /* code not used in refinement                                block */
-    XT_NO_PLACE = 16,         /* no place left in the block                                 block */
-    XT_RUN = 17,              /* end run passes the last block                              block of its code */
-    XT_PADDING = 18,          /* padding not ones, or bytes left                            bytes read */
-    XT_CODE_LACKING = 19,     /* writer's table lacks a code                                the code's value */
-    XT_SETTING = 20,          /* setting or count out of range, or barred by a step         0 */
-    XT_LENGTH = 21,           /* a lent input's length is not what the counts ask           0 */
-    XT_QUANTISER = 22         /* quantiser entry not 1..255                                 first index */
+    XT_DONE = 0,              /* done                                                 count written */
+    XT_NOT_A_PICTURE = 1,     /* does not begin FF D8                                 0 */
+    XT_SEGMENT = 2,           /* segment or marker broken, or no SOS                  where it was to begin */
+    XT_PACKET_HEAD = 3,       /* packet head broken                                   where its segment begins */
+    XT_NO_PACKET = 4,         /* no packet of this type and instance                  0 */
+    XT_DISAGREE = 5,          /* packets disagree on LBox                             0 */
+    XT_TWICE = 6,             /* a sequence number stands twice                       the smallest such */
+    XT_MISSING = 7,           /* a sequence number is missing                         smallest missing of 1..n */
+    XT_TOTAL = 8,             /* payload total is not LBox-8                          the total */
+    XT_SHORT = 9,             /* destination too short                                length needed */
+    XT_TABLE = 10,            /* code table bad                                       0 */
+    XT_RANGE = 11,            /* value out of range                                   first index */
+    XT_ENDED = 12,            /* data end early                                       block                      the data's length */
+    XT_MARKER = 13,           /* FF without 00 after it                               block                      where its FF stands */
+    XT_NO_CODE = 14,          /* 16 bits and no code                                  block                      the last bit's byte */
+    XT_CODE_UNUSED = 15,      /* code not used in refinement                          block                      the last bit's byte */
+    XT_NO_PLACE = 16,         /* no place left in the block                           block                      the last bit's byte */
+    XT_RUN = 17,              /* end run passes the last block                        block of its code          the last bit's byte */
+    XT_PADDING = 18,          /* padding not ones, or bytes left                      bytes read */
+    XT_CODE_LACKING = 19,     /* writer's table lacks a code                          the code's value */
+    XT_SETTING = 20,          /* setting or count out of range, or barred by a step   0 */
+    XT_LENGTH = 21,           /* a lent input's length is not what the counts ask     0 */
+    XT_QUANTISER = 22         /* quantiser entry not 1..255                           first index */
 };
 
 /* A short sentence for a number. */
@@ -82,40 +86,42 @@ static inline const char *xt_meaning(uint32_t number)
  * order; in a file that can be walked through, boxes of another type or instance change nothing (D6). Takes 128 KiB of stack,
  * no other call takes as much. */
 uint32_t xt_box_bytes(const uint8_t *file, size_t file_len, uint32_t type, uint16_t instance,
-                      uint8_t *destination, size_t destination_len, uint64_t *place);
+                      uint8_t *destination, size_t destination_len, uint64_t *place, uint64_t *second);
 
 /* The listing of a file's packets as text; a file over 65,536 bytes has its text too (`answer 20 0`). */
-uint32_t xt_list_packets(const uint8_t *file, size_t file_len, uint8_t *text, size_t text_len, uint64_t *place);
+uint32_t xt_list_packets(const uint8_t *file, size_t file_len, uint8_t *text, size_t text_len, uint64_t *place,
+                         uint64_t *second);
 
 /* ---- refinement planes, 1 to 4. DC: one value a block. AC: 63 values a block, positions 1 to 63, and a code table
  * (16 counts, and as many values). Up to 1,024 blocks. Reading takes level plane-1 to level plane; writing takes level plane. */
 
 uint32_t xt_read_dc_plane(uint32_t plane, size_t blocks, const uint8_t *data, size_t data_len, const int32_t *values,
-                          size_t values_len, int32_t *destination, size_t destination_len, uint64_t *place);
+                          size_t values_len, int32_t *destination, size_t destination_len, uint64_t *place,
+                          uint64_t *second);
 
 uint32_t xt_write_dc_plane(uint32_t plane, size_t blocks, const int32_t *values, size_t values_len, uint8_t *destination,
-                           size_t destination_len, uint64_t *place);
+                           size_t destination_len, uint64_t *place, uint64_t *second);
 
 uint32_t xt_read_ac_plane(uint32_t plane, size_t blocks, const uint8_t *counts, size_t counts_len, const uint8_t *codes,
                           size_t codes_len, const uint8_t *data, size_t data_len, const int32_t *values, size_t values_len,
-                          int32_t *destination, size_t destination_len, uint64_t *place);
+                          int32_t *destination, size_t destination_len, uint64_t *place, uint64_t *second);
 
 uint32_t xt_write_ac_plane(uint32_t plane, size_t blocks, const uint8_t *counts, size_t counts_len, const uint8_t *codes,
                            size_t codes_len, const int32_t *values, size_t values_len, uint8_t *destination,
-                           size_t destination_len, uint64_t *place);
+                           size_t destination_len, uint64_t *place, uint64_t *second);
 
 /* ---- dequantising and the inverse transform: 64 values a block in zigzag order, 64 quantisers in the same order;
  * samples of a block row by row, not clipped. */
 uint32_t xt_inverse_transform(uint32_t refinement, size_t blocks, const int32_t *values, size_t values_len,
                               const uint16_t *quantisers, size_t quantisers_len, int32_t *destination,
-                              size_t destination_len, uint64_t *place);
+                              size_t destination_len, uint64_t *place, uint64_t *second);
 
 /* ---- what a preview owes: 64 numbers, row by row. Each says how far the transform's sample at this place of a block, times
  * 2^left, can be from the full picture's, where `left` planes, 0 to 4, are not yet read, whatever those planes hold. The
  * quantisers are the transform's. Refused in this order: `left` above 4 (XT_SETTING); other than 64 quantisers (XT_LENGTH);
  * one that is not 1 to 255 (XT_QUANTISER); room for fewer than 64 numbers (XT_SHORT). */
 uint32_t xt_preview_owes(uint32_t left, const uint16_t *quantisers, size_t quantisers_len, uint32_t *destination,
-                         size_t destination_len, uint64_t *place);
+                         size_t destination_len, uint64_t *place, uint64_t *second);
 
 /* ---- the merge to 9 to 16 bits. Component planes follow one another. What is not used is empty.
  * C5: base_transform, residual_transform: 0 identity, 1 the transform. curve: 0 straight, 1 the lent table, 2 inverse sRGB.
@@ -124,7 +130,8 @@ uint32_t xt_preview_owes(uint32_t left, const uint16_t *quantisers, size_t quant
 uint32_t xt_merge(uint32_t rb, uint32_t rh, uint32_t rr, uint32_t components, size_t pixels, uint32_t base_transform,
                   uint32_t curve, uint32_t matrix_on, uint32_t residual_on, uint32_t residual_transform, const int32_t *base,
                   size_t base_len, const int32_t *residual, size_t residual_len, const uint16_t *table, size_t table_len,
-                  const int16_t *matrix, size_t matrix_len, uint16_t *destination, size_t destination_len, uint64_t *place);
+                  const int16_t *matrix, size_t matrix_len, uint16_t *destination, size_t destination_len, uint64_t *place,
+                  uint64_t *second);
 
 #ifdef __cplusplus
 }

@@ -28,9 +28,9 @@ def main():
         write_pictures(sys.argv[3], whole, broken, far)
     else:
         print('the reference software is not there (apt-get install libjpeg-tools), or it said no: there are no pictures of the accident to write')
-    number, place, _ = box(open(sys.argv[2], 'rb').read(), b'FINE', 0)
-    meaning = f': two packets claim the number {place}; take the file back to the camera' if number == 6 else ''
-    print(f'ours: answer {number} {place}{meaning}')
+    answer = box(open(sys.argv[2], 'rb').read(), b'FINE', 0)
+    meaning = f': two packets claim the number {answer.place}; take the file back to the camera' if answer.number == 6 else ''
+    print(f'ours: answer {answer.number} {answer.place}{meaning}')
 
 
 main()

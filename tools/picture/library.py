@@ -1,6 +1,6 @@
 """The calls of libreader_c.a from Python, through a shared library made of it: the one in the folder that AUHOWIPI_LIBRARY names (tools/library makes one for any machine), else
 target/staticlib's, which `rt staticlib reader_c` makes for x86-64."""
-import ctypes, os, subprocess, tempfile
+import collections, ctypes, os, subprocess, tempfile
 
 ROOT = os.path.dirname(os.path.dirname(os.path.dirname(os.path.abspath(__file__))))
 ARCHIVE = os.path.join(os.environ.get('AUHOWIPI_LIBRARY', os.path.join(ROOT, 'target', 'staticlib')), 'libreader_c.a')
@@ -15,6 +15,8 @@ def load():
 
 
 C = load()
+# `second` is the byte of the coded data that 12 to 17 name, and 0 with every other number; `out` is the destination
+Answer = collections.namedtuple('Answer', 'number place second out')
 
 
 def lent(kind, values):
@@ -23,7 +25,7 @@ def lent(kind, values):
 
 
 def call(name, *parts):
-    """Gives (number, place, destination). A part is a number with its type, or (type, values); the last is the destination."""
+    """Gives an Answer. A part is a number with its type, or (type, values); the last is the destination."""
     arguments, arrays = [], []
     for part in parts:
         if isinstance(part, tuple):
@@ -32,11 +34,11 @@ def call(name, *parts):
             arguments += [array, size]
         else:
             arguments.append(part)
-    place = ctypes.c_uint64()
+    place, second = ctypes.c_uint64(), ctypes.c_uint64()
     function = getattr(C, name)
     function.restype = ctypes.c_uint32
-    number = function(*arguments, ctypes.byref(place))
-    return number, place.value, list(arrays[-1])
+    number = function(*arguments, ctypes.byref(place), ctypes.byref(second))
+    return Answer(number, place.value, second.value, list(arrays[-1]))
 
 
 U8, U16, U32, I16, I32 = ctypes.c_uint8, ctypes.c_uint16, ctypes.c_uint32, ctypes.c_int16, ctypes.c_int32
@@ -44,13 +46,13 @@ u32, size = ctypes.c_uint32, ctypes.c_size_t
 
 
 def box(file, name, instance):
-    number, place, out = call('xt_box_bytes', (U8, file), u32(int.from_bytes(name, 'big')), ctypes.c_uint16(instance), (U8, bytes(len(file))))
-    return number, place, bytes(out[:place]) if number == 0 else b''
+    answer = call('xt_box_bytes', (U8, file), u32(int.from_bytes(name, 'big')), ctypes.c_uint16(instance), (U8, bytes(len(file))))
+    return answer._replace(out=bytes(answer.out[:answer.place]) if answer.number == 0 else b'')
 
 
 def listing(file):
-    number, place, out = call('xt_list_packets', (U8, file), (U8, bytes(1 << 16)))
-    return bytes(out[:place]).decode()
+    answer = call('xt_list_packets', (U8, file), (U8, bytes(1 << 16)))
+    return bytes(answer.out[:answer.place]).decode()
 
 
 def read_dc(plane, blocks, data, values):

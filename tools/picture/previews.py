@@ -18,9 +18,9 @@ SQUARE = 16
 def samples_owe(left, quantisers):
     """What a component's samples owe at each place of a block, with so many planes left."""
     answer = preview_owes(left, quantisers)
-    if answer[0]:
+    if answer.number:
         refuse(f'what a preview owes with {left} left', answer)
-    return answer[2]
+    return answer.out
 
 
 def colours_owe(left, owed):
@@ -90,7 +90,7 @@ def main():
     print(f'samples before the merge, {8 + planes} bits; those of a preview times 2^left:')
     in_scale = [[[s << planes - j for s in component] for component in preview] for j, preview in enumerate(samples)]
     beyond = show(sample_names, width, in_scale, owed)
-    tone = ", and the file's TONE table is left aside" if box(file, b'TONE', 1)[0] == 0 else ''
+    tone = ", and the file's TONE table is left aside" if box(file, b'TONE', 1).number == 0 else ''
     print(f'results of the merge, {8 + rb} bits, without a residual; the law is about the straight curve, so that curve is taken{tone}:')
     beyond += show(result_names, width, results, [results_owe(rb, planes, left, before_curve[left]) for left in range(planes + 1)])
     write_previews(folder, width, (1 << 8 + rb) - 1, results)

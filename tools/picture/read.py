@@ -55,7 +55,8 @@ def scan_of(fine):
 
 
 def refuse(what, answer):
-    raise SystemExit(f'{what}: answer {answer[0]} {answer[1]}')
+    look = f', look at byte {answer.second} of its data' if 12 <= answer.number <= 17 else ''
+    raise SystemExit(f'{what}: answer {answer.number} {answer.place}{look}')
 
 
 def all_boxes(file, kind):
@@ -63,18 +64,17 @@ def all_boxes(file, kind):
     found = []
     while True:
         answer = box(file, kind, len(found))
-        if answer[0] == 4:
+        if answer.number == 4:
             return found
-        if answer[0]:
+        if answer.number:
             refuse(f'{kind.decode()} {len(found)}', answer)
-        found.append(answer[2])
+        found.append(answer.out)
 
 
 def output_bits(file):
     """8 + Rb, from the output conversion box in the merging specification box."""
-    number, _, spec = box(file, b'SPEC', 1)
-    at = 0
-    while number == 0 and at < len(spec):
+    spec, at = box(file, b'SPEC', 1).out, 0
+    while at < len(spec):
         if spec[at + 4:at + 8] == b'OCON':
             return 8 + (spec[at + 8] >> 4)
         at += max(8, int.from_bytes(spec[at:at + 4], 'big'))
@@ -134,10 +134,10 @@ def levels_of(name, path, codestream, fines, say):
     for numbers, is_dc, low, table, data in scans:
         plane, values = planes - low, dc if is_dc else ac[numbers[0]]
         answer = read_dc(plane, len(dc[0]), data, values[-1]) if is_dc else read_ac(plane, n, *table, data, values[-1])
-        if answer[0]:
+        if answer.number:
             refuse(f'{name}, plane {plane}', answer)
-        values.append(answer[2])
-        say(f'{name}, plane {plane} {"DC" if is_dc else "AC"}: {len(data)} bytes, {answer[1]} values')
+        values.append(answer.out)
+        say(f'{name}, plane {plane} {"DC" if is_dc else "AC"}: {len(data)} bytes, {answer.place} values')
     if any(len(values) <= planes for values in ac.values()):
         raise SystemExit(f'{name}: a component lacks an AC plane')
     blocks = lambda k, number, j: [[dc[j][len(components) * b + k]] + ac[number][j][63 * b:63 * b + 63] for b in range(n)]
@@ -153,9 +153,9 @@ def rows(width, height, samples):
 def transformed(name, refinement, blocks, quantisers):
     """The samples of a component, block by block."""
     answer = transform(refinement, len(blocks), [v for block in blocks for v in block], quantisers)
-    if answer[0]:
+    if answer.number:
         refuse(f'{name}, transform', answer)
-    return answer[2]
+    return answer.out
 
 
 def samples_of(name, path, codestream, fines, say):
@@ -174,10 +174,10 @@ def pixel_by_pixel(planes):
 def merged(rb, rh, rr, base, table, residual):
     """How many samples were merged, and the component planes of them."""
     answer = merge(rb, rh, rr, len(base), sum(base, []), table, sum(residual, []))
-    if answer[0]:
+    if answer.number:
         refuse('merge', answer)
     n = len(base[0])
-    return answer[1], [answer[2][n * k:n * k + n] for k in range(len(base))]
+    return answer.place, [answer.out[n * k:n * k + n] for k in range(len(base))]
 
 
 def read(path, say=print):
@@ -185,15 +185,15 @@ def read(path, say=print):
     file = open(path, 'rb').read()
     say(listing(file).rstrip())
     width, height, planes, base, base16 = samples_of('base', path, file, all_boxes(file, b'FINE'), say)
-    number, _, tone = box(file, b'TONE', 1)
-    table = [int.from_bytes(tone[i:i + 2], 'big') for i in range(1, len(tone) - 1, 2)] if number == 0 else []
-    number, _, codestream = box(file, b'RESI', 1)
+    tone = box(file, b'TONE', 1).out
+    table = [int.from_bytes(tone[i:i + 2], 'big') for i in range(1, len(tone) - 1, 2)]
+    codestream = box(file, b'RESI', 1)
     residual, residual16, rr = [], [], 0
-    if number == 0:
+    if codestream.number == 0:
         inner = os.path.join(TMP, 'residual.jpg')
         with open(inner, 'wb') as f:
-            f.write(codestream)
-        _, _, rr, residual, residual16 = samples_of('residual', inner, codestream, all_boxes(file, b'RFIN'), say)
+            f.write(codestream.out)
+        _, _, rr, residual, residual16 = samples_of('residual', inner, codestream.out, all_boxes(file, b'RFIN'), say)
     bits = output_bits(file)
     count, result = merged(bits - 8, planes, rr, base, table, residual)
     samples = pixel_by_pixel(result)

@@ -2,7 +2,7 @@
 """boxes.py STDIN STDOUT: makes the vectors of boxes that crates/box_vectors runs and what it must print: files in order, shuffled, with several
 instances, strangers, fill, broken heads, damage and cuts, by the second reading of the rules in tools/box_check.py, the bundled picture of the reference software, and pictures
 with practice beside live, held to the answer of the live one.
-A record is type, instance, room, the file, and the number, place and bytes expected."""
+A record is type, instance, room, the file, and the number, place and bytes expected; the second place is 0 in each answer, and has no column."""
 import os, random, struct, sys
 from fields import lent, numbers, write
 

@@ -3,7 +3,7 @@
 
   calls.py CASES LINES     writes the cases (the number of merges, each: fifteen numbers and four lists; the number of transforms, each: five numbers and two lists;
                            the number of previews, each: three numbers and a list)
-                           and the lines that are expected: number, place, the whole destination (a transform's samples with 2^31 added)
+                           and the lines that are expected: number, place, second place (0 in all of them), the whole destination (a transform's samples with 2^31 added)
 
 crates/c_vectors reads the cases on standard input and must write the lines:
   python3 tools/vectors/calls.py crates/c_vectors/stdin crates/c_vectors/stdout && rt check c_vectors
@@ -93,7 +93,7 @@ def line(case):
     number, place, out = transform.answer(*case)
     room = case[4]
     held = [0] * room if number else out + [7] * (room - len(out))
-    return ' '.join(map(str, [number, place] + [v + 2**31 for v in held]))
+    return ' '.join(map(str, [number, place, merge.SECOND] + [v + 2**31 for v in held]))
 
 
 def main():

@@ -1,7 +1,8 @@
 #!/usr/bin/env python3
 """Cases for the merge (docs/RULES.md, M) with exact fractions, written from the rules and from nothing else; and colours of the ISO reference software (colours.txt, made by colours.py), to which step 1 is held.
 
-  merge.py CASES LINES     writes the cases (their number, then each: fourteen numbers, nine weights, three lists) and the lines that are expected
+  merge.py CASES LINES     writes the cases (their number, then each: fourteen numbers, nine weights, three lists) and the lines that are expected: number, place,
+                           second place, the whole destination
 
 crates/merge_vectors reads the cases on standard input and must write the lines:
   python3 tools/vectors/merge.py crates/merge_vectors/stdin crates/merge_vectors/stdout && rt check merge_vectors
@@ -13,6 +14,7 @@ from fractions import Fraction as F
 from fields import numbers, raw_sizes, raw_values
 
 FILL = 4660
+SECOND = 0      # N17: "All other answers carry 0 as second place."; others than those of planes that are read
 MIN, MAX = -2**31, 2**31 - 1
 
 
@@ -125,7 +127,7 @@ class Case:
     def line(self):
         number, place, out = self.answer()
         held = [0] * self.room if number else out + [FILL] * (self.room - len(out))
-        return ' '.join(map(str, [number, place] + held))
+        return ' '.join(map(str, [number, place, SECOND] + held))
 
 
 rnd = random.Random(18477)

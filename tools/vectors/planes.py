@@ -27,25 +27,43 @@ def sparse(values):
     return struct.pack('<II', len(values), entries) + bytes(out)
 
 
+def hold_second(read, data, answer):
+    """N17 from another side: the bytes before the second place are too few, by the byte there; with that byte, and the one behind it where it is FF, they are enough."""
+    number, place, second, _ = answer
+    if not 12 <= number <= 17:
+        assert second == 0
+        return
+    short = read(data[:second])
+    assert (short[0], short[2]) == (12, second)
+    if number == 12:
+        assert second == len(data)
+        return
+    assert second < len(data) and (number != 13 or data[second] == 0xFF and data[second + 1] != 0)
+    assert read(data[:second + (2 if data[second] == 0xFF else 1)]) == answer
+
+
 def record(group, kind, plane, blocks, room, values, answer, counts=b'', codes=b'', data=b''):
-    number, place, out = answer
+    number, place, second, out = answer
+    if kind in (READ_DC, READ_AC):
+        hold_second(lambda d: read_dc(plane, blocks, d, values, room) if kind == READ_DC else read_ac(plane, blocks, counts, codes, d, values, room), data, answer)
+    assert second == 0 or kind in (READ_DC, READ_AC)
     out = [] if number else out
     expected = sparse(out) if kind in (READ_DC, READ_AC) else lent(out)
     body = struct.pack('<BIII', kind, plane, blocks, room) + lent(counts) + lent(codes) + lent(data) + sparse(values)
-    records.append((group, body + numbers(number, place) + expected))
+    records.append((group, body + numbers(number, place, second) + expected))
 
 
 def trip(group, plane, blocks, new, data, table=None):
     """These values are written as these bytes, and the bytes over the halves are read as these values."""
     if table:
         old = [half(v) for v in new]
-        assert read_ac(plane, blocks, *table, data, old, len(old)) == (0, len(old), new) and write_ac(plane, blocks, *table, new, 10 ** 6) == (0, len(data), data)
+        assert read_ac(plane, blocks, *table, data, old, len(old)) == given(new) and write_ac(plane, blocks, *table, new, 10 ** 6) == given(data)
     else:
         old = [v // 2 for v in new]
-        assert read_dc(plane, blocks, data, old, blocks) == (0, blocks, new) and write_dc(plane, blocks, new, 10 ** 6) == (0, len(data), data)
+        assert read_dc(plane, blocks, data, old, blocks) == given(new) and write_dc(plane, blocks, new, 10 ** 6) == given(data)
     counts, codes = table or (b'', b'')
     body = struct.pack('<BIII', TRIP_AC if table else TRIP_DC, plane, blocks, len(data)) + lent(counts) + lent(codes) + lent(data) + sparse(new)
-    records.append((group, body + numbers(0, 0)))
+    records.append((group, body + numbers(0, 0, 0)))
 
 
 # ---- pictures
@@ -122,14 +140,14 @@ def from_libjpeg(width, height, planes, quality, picture):
         else:
             level = lambda list_, shift: [(abs(v) >> shift) * (1 if v > 0 else -1) for b in list_ for v in b[1:]]
             old, new = level(before, high), level(after, low)
-            assert old == [half(v) for v in new] and read_ac(plane, blocks, *table, bytes_, old, 63 * blocks) == (0, 63 * blocks, new)
+            assert old == [half(v) for v in new] and read_ac(plane, blocks, *table, bytes_, old, 63 * blocks) == given(new)
             ours = write_ac(plane, blocks, *table, new, 10 ** 6)
-            if ours == (0, len(bytes_), bytes_):
+            if ours == given(bytes_):
                 trip('AC planes of libjpeg', plane, blocks, new, bytes_, table)
             else:
                 different += 1
                 print(f'  plane {plane} of {blocks} blocks: libjpeg wrote {len(bytes_)} bytes, the longest end runs give (number, place) {ours[:2]}')
-                record('AC planes of libjpeg that end a run early, read, and written by the rules', READ_AC, plane, blocks, 63 * blocks, old, (0, 63 * blocks, new), *table, data=bytes_)
+                record('AC planes of libjpeg that end a run early, read, and written by the rules', READ_AC, plane, blocks, 63 * blocks, old, given(new), *table, data=bytes_)
                 record('AC planes of libjpeg that end a run early, read, and written by the rules', WRITE_AC, plane, blocks, 100000, new, ours, *table)
     return different
 
@@ -154,10 +172,10 @@ def refined(groups, blocks, fines, planes):
         start, data, end, first, high, low, table = scans(b'\xff\xd8' + fine + b'\xff\xd9')[0]
         plane, bytes_ = planes - low, (b'\xff\xd8' + fine)[data:end]
         if first == 0:
-            dc = read_dc(plane, len(blocks), bytes_, dc, len(blocks))[2]
+            dc = read_dc(plane, len(blocks), bytes_, dc, len(blocks))[3]
             trip(groups[0], plane, len(blocks), dc, bytes_)
         else:
-            ac = read_ac(plane, len(blocks), *table, bytes_, ac, 63 * len(blocks))[2]
+            ac = read_ac(plane, len(blocks), *table, bytes_, ac, 63 * len(blocks))[3]
             trip(groups[1], plane, len(blocks), ac, bytes_, table)
 
 
@@ -200,19 +218,19 @@ def counts_and_runs(rnd):
     for blocks in (0, 1, 2, 63, 1023, 1024):
         for plane in (1, 4):
             values = some_values(rnd, blocks, plane, 0.5, dc=True)
-            trip('DC planes of 0 to 1024 blocks', plane, blocks, values, write_dc(plane, blocks, values, 10 ** 6)[2])
+            trip('DC planes of 0 to 1024 blocks', plane, blocks, values, write_dc(plane, blocks, values, 10 ** 6)[3])
             values = some_values(rnd, 63 * blocks, plane, 0.02 if blocks < 100 else 0.001)
-            trip('AC planes of 0 to 1024 blocks', plane, blocks, values, write_ac(plane, blocks, SIX, ALL, values, 10 ** 6)[2], (SIX, ALL))
+            trip('AC planes of 0 to 1024 blocks', plane, blocks, values, write_ac(plane, blocks, SIX, ALL, values, 10 ** 6)[3], (SIX, ALL))
     for run in (1, 2, 3, 4, 7, 8, 15, 16, 31, 32, 63, 64, 127, 128, 255, 256, 511, 512, 1023):
         values = [1] + [0] * (63 * run + 62)
-        trip('end runs of 1 to 1023 blocks', 1, run + 1, values, write_ac(1, run + 1, SIX, ALL, values, 10 ** 6)[2], (SIX, ALL))
+        trip('end runs of 1 to 1023 blocks', 1, run + 1, values, write_ac(1, run + 1, SIX, ALL, values, 10 ** 6)[3], (SIX, ALL))
     for zeros in (14, 15, 16, 17, 30, 31, 32, 33, 47, 48, 49, 61, 62):
         for kept in (0, 1):
             values = [0] * zeros + [-1] + [0] * (62 - zeros)
             if kept and zeros > 20:
                 values[5] = 6
                 values[20] = -5
-            trip('zeros before a new value', 2, 1, values, write_ac(2, 1, SIX, ALL, values, 10 ** 6)[2], (SIX, ALL))
+            trip('zeros before a new value', 2, 1, values, write_ac(2, 1, SIX, ALL, values, 10 ** 6)[3], (SIX, ALL))
 
 
 def refusals(rnd):
@@ -267,8 +285,7 @@ def refusals(rnd):
     for _ in range(150):
         blocks = rnd.choice([1, 2, 5])
         values = some_values(rnd, 63 * blocks, 3, rnd.choice([0.02, 0.2, 0.9]))
-        number, _, data = write_ac(3, blocks, SIX, ALL, values, 10 ** 6)
-        data = bytearray(data)
+        data = bytearray(write_ac(3, blocks, SIX, ALL, values, 10 ** 6)[3])
         if rnd.random() < 0.5:
             data = data[:rnd.randrange(len(data) + 1)]
         for _ in range(rnd.choice([0, 1, 1, 2])):
@@ -278,6 +295,87 @@ def refusals(rnd):
     for _ in range(60):
         blocks = rnd.choice([1, 2, 5])
         by_rules('AC planes written with little room or few codes', WRITE_AC, 3, blocks, rnd.choice([3, 50, 500]), some_values(rnd, 63 * blocks, 3, rnd.choice([0.02, 0.2, 0.9])), *rnd.choice([T, (SIX, ALL)]))
+
+
+# ---- second places
+
+def of_two_bits(*codes):
+    """A table whose codes are 00, 01 and 10."""
+    return bytes([0, len(codes)] + [0] * 14), bytes(codes)
+
+
+FAR = [0] * 48      # what three F0 step over
+CLOSED = [          # a table, the bits of a block, its values, and the number that its last bit is refused with
+    (14, T, '1' * 16, [0] * 63),
+    (15, of_two_bits(0x00, 0x02, 0xF0), '01', [0] * 63),
+    (16, of_two_bits(0x00, 0xF0, 0x01), '01' * 4, [0] * 63),                             # behind F0's code
+    (16, of_two_bits(0x00, 0xF0, 0x01), '01' * 4 + '111', FAR + [0] * 12 + [3] * 3),      # behind corrections
+    (16, of_two_bits(0x00, 0xF0, 0x01), '01' * 4 + '11', FAR + [3] * 2 + [0] * 13),       # behind corrections, with zeros left
+    (16, of_two_bits(0x00, 0xF0, 0xF1), '01' * 3 + '10' + '1', [0] * 63),                # behind the sign
+    (16, of_two_bits(0x00, 0xF0, 0xE1), '01' * 3 + '10' + '11', FAR + [0] * 14 + [3]),    # behind the sign and a correction
+    (17, of_two_bits(0x00, 0x10, 0xF0), '01' + '1', [0] * 63),                           # with r 0 a run is one block, which is never too long
+    (17, of_two_bits(0x00, 0x30, 0xF0), '01' + '111', [0] * 63),
+    (17, of_two_bits(0x00, 0x30, 0xF0), '01' + '001', [0] * 63 * 8),                     # nine blocks where eight are left
+]
+
+
+def behind_ones(n, tail, values):
+    """A block whose end run corrects n values, each by a one, and behind it the blocks of these bits. The bits, and the values."""
+    return [0, 0] + [1] * n + [int(b) for b in tail], [3] * n + [0] * (63 - n) + values
+
+
+def last_bits():
+    """Each refusal 14 to 17 at once, and behind ones until its last bit stood at each place of a byte: behind FF 00, and in an FF whose 00 follows. Its byte is counted from the bits."""
+    for number, table, tail, values in CLOSED:
+        in_ff = 0
+        for n in (0, *range(14, 22)):
+            bits, all_ = behind_ones(n, tail, values)
+            whole = (len(bits) - 1) // 8
+            second = whole + sum(all(bits[8 * i:8 * i + 8]) for i in range(whole))
+            blocks, data = len(all_) // 63, pack(bits)
+            answer = by_rules(f'second places: {number} at each place of a byte', READ_AC, 1, blocks, len(all_), all_, *table, data=data)
+            assert answer == refused(number, 1, second)
+            in_ff += data[second] == 0xFF
+        assert in_ff
+
+
+def cut_or_broken():
+    """The same cut at each byte, and with another byte for the 00 behind each FF."""
+    for number, table, tail, values in CLOSED:
+        bits, all_ = behind_ones(22, tail, values)
+        blocks, data = len(all_) // 63, pack(bits)
+        for n in range(len(data)):
+            answer = by_rules('second places: 12 where data are cut at each byte', READ_AC, 1, blocks, len(all_), all_, *table, data=data[:n])
+            assert answer[0] == 12 and answer[2] == n
+        for i in (i for i, byte in enumerate(data) if byte == 0xFF):
+            broken = data[:i + 1] + bytes([(1, 0xD9, 0xFF)[i % 3]]) + data[i + 2:]
+            answer = by_rules('second places: 13 at each FF', READ_AC, 1, blocks, len(all_), all_, *table, data=broken)
+            assert answer[0] == 13 and answer[2] == i
+
+
+def by_hand():
+    """Data that end early or break, each with number, place and second place."""
+    for blocks, data, told in (
+            (1, b'', (12, 0, 0)), (9, b'\x3f', (12, 8, 1)), (1, b'\xff', (12, 0, 1)), (9, b'\x3f\xff', (12, 8, 2)), (9, b'\xff\x00', (12, 8, 2)),
+            (9, b'\xff\x00\xff', (12, 8, 3)), (17, b'\xff\x00\xff\x00', (12, 16, 4)), (17, b'\xff\x00\x3f\xff', (12, 16, 4)), (1, b'\xff\x01', (13, 0, 0)),
+            (1, b'\xff\xff\x00', (13, 0, 0)), (9, b'\x3f\xff\x01', (13, 8, 1)), (9, b'\xff\x00\xff\xd9', (13, 8, 2)), (17, b'\xff\x00\x3f\xff\x01\x00', (13, 16, 3)),
+            (1, b'\x3f\xff\x01', (18, 1, 0)), (1, b'\xff\x00\xff', (18, 2, 0))):
+        assert by_rules('second places: DC planes', READ_DC, 1, blocks, blocks, [3] * blocks, data=data)[:3] == told
+    zeros, threes, run = [0] * 63, [3] * 63, of_two_bits(0xF0, 0x30, 0x01)
+    for table, data, values, told in (
+            (T, b'', zeros, (12, 0, 0)), (T, b'\xff', zeros, (12, 0, 1)), (T, b'\x3f', threes, (12, 0, 1)), (T, b'\x3f\xff', threes, (12, 0, 2)),
+            (T, b'\xff\x01', zeros, (13, 0, 0)), (T, b'\x3f\xff\x01', threes, (13, 0, 1)), (T, b'\x3f\xff\x00\xff\xd9', threes, (13, 0, 3)),
+            # the sign, and e, stand in the byte that is missing or broken
+            (T, b'\xa9', zeros, (12, 0, 1)), (T, b'\xa9\xff', zeros, (12, 0, 2)), (T, b'\xa9\xff\x01', zeros, (13, 0, 1)),
+            (run, b'\x01', zeros, (12, 0, 1)), (run, b'\x01\xff', zeros, (12, 0, 2)), (run, b'\x01\xff\x01', zeros, (13, 0, 1)), (run, b'\x01\xff\x00', zeros, (17, 0, 1)),
+            (T, b'\xff\x00\xff\x00', zeros, (14, 0, 2)), (T, b'\x3f\xff\x01', zeros, (18, 1, 0))):
+        assert by_rules('second places: AC planes', READ_AC, 1, 1, 63, values, *table, data=data)[:3] == told
+
+
+def second_places():
+    by_hand()
+    last_bits()
+    cut_or_broken()
 
 
 def main():
@@ -293,6 +391,7 @@ def main():
         from_reference(40, 32, planes, 8, planes, True)
     counts_and_runs(rnd)
     refusals(rnd)
+    second_places()
     write(records, sys.argv[1], sys.argv[2])
     print(f'libjpeg differs in {different} planes')
 

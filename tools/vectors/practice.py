@@ -14,7 +14,8 @@ def line(name, file, instance, room):
     if len(bytes_) > room:
         number = 9
     after = [0] * room if number else list(bytes_) + [46] * (room - len(bytes_))
-    return f'{name} {instance} {room}: {number} {place} ' + ' '.join(map(str, after + [46] * (6 - room)))
+    # N17: the second place is 0 in each answer on boxes
+    return f'{name} {instance} {room}: {number} {place} 0 ' + ' '.join(map(str, after + [46] * (6 - room)))
 
 
 source = open(os.path.join(ROOT, 'crates', 'practice_cases', 'src', 'main.rt')).read()

@@ -12,6 +12,7 @@ import bisect
 import functools
 import random
 from fields import numbers, raw_sizes
+from merge import SECOND
 from transform import K, WALK, dequantised, in_range, q_at, sample
 
 FULL = 4
@@ -180,7 +181,7 @@ def line(case):
     left, quantisers, room = case
     number, place = answer(*case)
     held = [0] * room if number else owed(left, tuple(quantisers))[0] + [FILL] * (room - 64)
-    return ' '.join(map(str, [number, place] + held))
+    return ' '.join(map(str, [number, place, SECOND] + held))
 
 
 def told():

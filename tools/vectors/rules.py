@@ -1,32 +1,32 @@
 """Refinement planes by docs/RULES.md (R, E) and T.81 (Annexes C, F, G), in exact integers: an independent program, written from the rules and code by
-code, not position by position. Each call gives (number, place, output); output is None on a refusal."""
+code, not position by position. Each call gives (number, place, second, output); output is None on a refusal. The second place is that of a stop, the offset of the
+last bit asked for; "All other answers carry 0 as second place." (N17)"""
 
 
 class Stop(Exception):
-    def __init__(self, number):
-        self.number = number
+    def __init__(self, number, offset):
+        self.number, self.offset = number, offset
 
 
 class Bits:
-    """Bits from the highest of each byte; a byte is read only when a bit of it is needed; FF is followed by 00."""
+    """Bits from the highest of each byte; a byte is read only when a bit of it is needed; FF is followed by 00. `asked` is the offset of the byte of the last bit
+    asked for: the FF, never its 00."""
 
     def __init__(self, data):
-        self.data, self.at, self.byte, self.left = data, 0, 0, 0
+        self.data, self.at, self.byte, self.left, self.asked = data, 0, 0, 0, 0
 
     def bit(self):
         if self.left == 0:
             if self.at >= len(self.data):
-                raise Stop(12)
+                raise Stop(12, self.at)
             byte = self.data[self.at]
-            if byte == 0xFF:
-                if self.at + 1 >= len(self.data):
-                    raise Stop(12)
-                if self.data[self.at + 1] != 0:
-                    raise Stop(13)
-                self.at += 2
-            else:
-                self.at += 1
-            self.byte, self.left = byte, 8
+            size = 2 if byte == 0xFF else 1
+            if self.at + size > len(self.data):
+                raise Stop(12, self.at + 1)
+            if size == 2 and self.data[self.at + 1] != 0:
+                raise Stop(13, self.at)
+            self.asked, self.byte, self.left = self.at, byte, 8
+            self.at += size
         self.left -= 1
         return self.byte >> self.left & 1
 
@@ -35,6 +35,9 @@ class Bits:
         for _ in range(n):
             v = v * 2 + self.bit()
         return v
+
+    def stop(self, number):
+        return Stop(number, self.asked)
 
     def padded(self):
         return self.byte & ((1 << self.left) - 1) == (1 << self.left) - 1 and self.at == len(self.data)
@@ -68,7 +71,7 @@ class Codes:
             number = number * 2 + bits.bit()
             if (length, number) in self.of:
                 return self.of[length, number]
-        raise Stop(14)
+        raise bits.stop(14)
 
 
 def dc_ok(v, level):
@@ -86,26 +89,34 @@ def first_bad(values, ok):
     return None
 
 
+def refused(number, place, second=0):
+    return number, place, second, None
+
+
+def given(out):
+    return 0, len(out), 0, out
+
+
 def closed(bits, out):
-    return (0, len(out), out) if bits.padded() else (18, bits.at, None)
+    return given(out) if bits.padded() else refused(18, bits.at)
 
 
 def read_dc(plane, blocks, data, values, room):
     if not 1 <= plane <= 4 or blocks > 1024:
-        return 20, 0, None
+        return refused(20, 0)
     if len(values) != blocks:
-        return 21, 0, None
+        return refused(21, 0)
     bad = first_bad(values, lambda v: dc_ok(v, plane - 1))
     if bad is not None:
-        return 11, bad, None
+        return refused(11, bad)
     if room < blocks:
-        return 9, blocks, None
+        return refused(9, blocks)
     bits, out = Bits(data), []
     for b, v in enumerate(values):
         try:
             out.append(2 * v + bits.bit())
         except Stop as s:
-            return s.number, b, None
+            return refused(s.number, b, s.offset)
     return closed(bits, out)
 
 
@@ -115,16 +126,16 @@ def corrected(c, bit):
 
 def read_ac(plane, blocks, counts, codes, data, values, room):
     if not 1 <= plane <= 4 or blocks > 1024:
-        return 20, 0, None
+        return refused(20, 0)
     if len(values) != 63 * blocks:
-        return 21, 0, None
+        return refused(21, 0)
     if not good_table(counts, codes):
-        return 10, 0, None
+        return refused(10, 0)
     bad = first_bad(values, lambda v: ac_ok(v, plane - 1))
     if bad is not None:
-        return 11, bad, None
+        return refused(11, bad)
     if room < 63 * blocks:
-        return 9, 63 * blocks, None
+        return refused(9, 63 * blocks)
     bits, table, out, run = Bits(data), Codes(counts, codes), [], 0
     for b in range(blocks):
         block = list(values[63 * b:63 * b + 63])
@@ -134,11 +145,11 @@ def read_ac(plane, blocks, counts, codes, data, values, room):
                 code = table.take(bits)
                 r, s = code >> 4, code & 15
                 if s > 1:
-                    raise Stop(15)
+                    raise bits.stop(15)
                 if s == 0 and r < 15:
                     run = (1 << r) + bits.number(r)
                     if run > blocks - b:
-                        raise Stop(17)
+                        raise bits.stop(17)
                     break
                 new = (1 if bits.bit() else -1) if s == 1 else 0
                 zeros = r if s == 1 else 15
@@ -152,7 +163,7 @@ def read_ac(plane, blocks, counts, codes, data, values, room):
                         zeros -= 1
                     p += 1
                 if p == 63:
-                    raise Stop(16)
+                    raise bits.stop(16)
                 p += 1
             if run:
                 while p < 63:
@@ -161,7 +172,7 @@ def read_ac(plane, blocks, counts, codes, data, values, room):
                     p += 1
                 run -= 1
         except Stop as s:
-            return s.number, b, None
+            return refused(s.number, b, s.offset)
         out += block
     return closed(bits, out)
 
@@ -187,14 +198,14 @@ def half(v):
 
 def write_dc(plane, blocks, values, room):
     if not 1 <= plane <= 4 or blocks > 1024:
-        return 20, 0, None
+        return refused(20, 0)
     if len(values) != blocks:
-        return 21, 0, None
+        return refused(21, 0)
     bad = first_bad(values, lambda v: dc_ok(v, plane))
     if bad is not None:
-        return 11, bad, None
+        return refused(11, bad)
     out = pack([v - 2 * (v // 2) for v in values])
-    return (0, len(out), out) if len(out) <= room else (9, len(out), None)
+    return given(out) if len(out) <= room else refused(9, len(out))
 
 
 def ac_words(blocks, values):
@@ -244,21 +255,21 @@ def ac_words(blocks, values):
 
 def write_ac(plane, blocks, counts, codes, values, room):
     if not 1 <= plane <= 4 or blocks > 1024:
-        return 20, 0, None
+        return refused(20, 0)
     if len(values) != 63 * blocks:
-        return 21, 0, None
+        return refused(21, 0)
     if not good_table(counts, codes):
-        return 10, 0, None
+        return refused(10, 0)
     bad = first_bad(values, lambda v: ac_ok(v, plane))
     if bad is not None:
-        return 11, bad, None
+        return refused(11, bad)
     table, bits = assigned(counts, codes), []
     for word in ac_words(blocks, values):
         if isinstance(word, int):
             if word not in table:
-                return 19, word, None
+                return refused(19, word)
             bits += digits(*table[word])
         else:
             bits += word
     out = pack(bits)
-    return (0, len(out), out) if len(out) <= room else (9, len(out), None)
+    return given(out) if len(out) <= room else refused(9, len(out))

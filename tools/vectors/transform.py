@@ -8,7 +8,8 @@ Nothing is taken from crates/: the zigzag order is walked step by step, each ker
 itself (which must be one of the nine values of T7 up to its sign), the sums are exact integers, and each sample is also held to
 T.81's real formula.
 
-A record is R, blocks, room, number and place to be answered; the values; the quantisers; and what the call must hand out. Before it, the destination holds sevens."""
+A record is R, blocks, room, number and place to be answered; the values; the quantisers; and what the call must hand out. Before it, the destination holds sevens.
+The second place is 0 in each answer of this call, and has no column."""
 import math, os, random, sys
 import fields
 

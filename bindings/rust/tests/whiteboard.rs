@@ -1,4 +1,4 @@
-//! The whiteboard's readings (docs/RULES.md, S1 to S5, S7 and S8), practice beside live (S10) and grey (S11) through the Rust calls, what a preview owes, and a round trip.
+//! The whiteboard's readings (docs/RULES.md, S1 to S5, S7 and S8), practice beside live (S10) and grey (S11) through the Rust calls, what a preview owes, a round trip, and the byte that a refused plane names.
 use auhowipi::*;
 
 const LPTS: [u8; 4] = *b"LPTS";
@@ -18,9 +18,9 @@ fn picture(packets: &[(u32, &[u8])]) -> Vec<u8> {
     file
 }
 
-fn refused<T>(answer: Result<T, Error>) -> (u32, u64) {
+fn refused<T>(answer: Result<T, Error>) -> (u32, u64, u64) {
     let error = answer.err().expect("a refusal");
-    (error.number, error.place)
+    (error.number, error.place, error.second)
 }
 
 #[test]
@@ -29,7 +29,7 @@ fn a_box_and_its_listing() {
     let mut bytes = [7u8; 5];
     assert_eq!(box_bytes(&file, LPTS, 1, &mut bytes), Ok(3));
     assert_eq!(bytes, [0xAA, 0xBB, 0xCC, 7, 7]);
-    assert_eq!(refused(box_bytes(&file, LPTS, 2, &mut bytes)), (4, 0));
+    assert_eq!(refused(box_bytes(&file, LPTS, 2, &mut bytes)), (4, 0, 0));
     assert_eq!(bytes, [0; 5]);
     let mut text = [0u8; 100];
     let n = list_packets(&file, &mut text).unwrap();
@@ -40,11 +40,11 @@ fn a_box_and_its_listing() {
 fn two_packets_numbered_one() {
     let mut bytes = [7u8; 8];
     let twice = picture(&[(1, &[1]), (1, &[2, 3])]);
-    assert_eq!(refused(box_bytes(&twice, LPTS, 1, &mut bytes)), (6, 1));
+    assert_eq!(refused(box_bytes(&twice, LPTS, 1, &mut bytes)), (6, 1, 0));
     let missing = picture(&[(1, &[1]), (3, &[2, 3])]);
-    assert_eq!(refused(box_bytes(&missing, LPTS, 1, &mut bytes)), (7, 2));
+    assert_eq!(refused(box_bytes(&missing, LPTS, 1, &mut bytes)), (7, 2, 0));
     assert_eq!(bytes, [0; 8]);
-    assert_eq!(Error { number: 6, place: 1 }.to_string(), "two packets claim the same sequence number (6, place 1)");
+    assert_eq!(Error { number: 6, place: 1, second: 0 }.to_string(), "two packets claim the same sequence number (6, place 1)");
 }
 
 fn packet(instance: u16, number: u32, payload: &[u8]) -> Vec<u8> {
@@ -64,7 +64,7 @@ fn practice_beside_live() {
     let mut bytes = [46u8; 6];
     assert_eq!(box_bytes(&file(&[&first, &practice, &second]), LPTS, 2, &mut bytes), Ok(4));
     assert_eq!(&bytes, b"9.99..");
-    assert_eq!(refused(box_bytes(&file(&[&first, &second, &intruder]), LPTS, 1, &mut bytes)), (6, 1));
+    assert_eq!(refused(box_bytes(&file(&[&first, &second, &intruder]), LPTS, 1, &mut bytes)), (6, 1, 0));
     assert_eq!(bytes, [0; 6]);
 }
 
@@ -84,9 +84,9 @@ fn ac_planes() {
     assert_eq!(out[0], 7);
     assert_eq!(read_ac_plane(1, 1, T, &[0x43], &three, &mut out), Ok(63));
     assert_eq!(out[..3], [6, -1, 0]);
-    assert_eq!(refused(read_ac_plane(1, 1, T, &[0x43], &zero, &mut out)), (18, 1));
+    assert_eq!(refused(read_ac_plane(1, 1, T, &[0x43], &zero, &mut out)), (18, 1, 0));
     assert_eq!(out, [0; 63]);
-    assert_eq!(refused(read_ac_plane(1, 1, T, &[], &zero, &mut out)), (12, 0));
+    assert_eq!(refused(read_ac_plane(1, 1, T, &[], &zero, &mut out)), (12, 0, 0));
 }
 
 #[test]
@@ -97,6 +97,124 @@ fn dc_planes() {
     let mut bytes = [0u8; 2];
     assert_eq!(write_dc_plane(1, 8, &[1; 8], &mut bytes), Ok(2));
     assert_eq!(bytes, [0xFF, 0x00]);
+}
+
+/// What reading an AC plane 1 refuses: number, block, and the byte to look at.
+fn ac_refusal(table: Table, data: &[u8], values: &[i32]) -> (u32, u64, u64) {
+    let mut out = vec![7i32; values.len()];
+    let refusal = refused(read_ac_plane(1, values.len() / 63, table, data, values, &mut out));
+    assert!(out.iter().all(|&v| v == 0));
+    refusal
+}
+
+/// A table of three codes of two bits, as T, with other values.
+fn coded(codes: &[u8; 3]) -> Table<'_> {
+    Table { counts: &COUNTS, codes }
+}
+
+/// A block whose first so many values are 3, which take a correction bit each, and whose others are zeros.
+fn threes(n: usize) -> Vec<i32> {
+    (0..63).map(|p| if p < n { 3 } else { 0 }).collect()
+}
+
+/// 12: the data's length, also where an FF is the last byte. 13: its FF.
+#[test]
+fn the_byte_where_data_end_or_break() {
+    let (one, two) = ([0i32; 63], [0i32; 126]);
+    assert_eq!(ac_refusal(T, &[], &one), (12, 0, 0));
+    assert_eq!(ac_refusal(T, &[0xFF], &one), (12, 0, 1));
+    assert_eq!(ac_refusal(T, &[0xFF, 0x01], &one), (13, 0, 0));
+    // 67 is 01 1, 00, and three bits of the next block's code: the fourth is asked of byte 1
+    assert_eq!(ac_refusal(T, &[0x67], &two), (12, 1, 1));
+    assert_eq!(ac_refusal(T, &[0x67, 0xFF], &two), (12, 1, 2));
+    assert_eq!(ac_refusal(T, &[0x67, 0xFF, 0x01, 0x00], &two), (13, 1, 1));
+    // 10 and 14 corrections fill BF FF; the code behind them is asked of byte 3
+    assert_eq!(ac_refusal(T, &[0xBF, 0xFF, 0x00], &threes(14)), (12, 0, 3));
+    assert_eq!(ac_refusal(T, &[0xBF, 0xFF, 0x00, 0xFF, 0xD9], &threes(14)), (13, 0, 3));
+    let mut out = [7i32; 17];
+    assert_eq!(refused(read_dc_plane(1, 9, &[0xA5], &[0; 9], &mut out)), (12, 8, 1));
+    assert_eq!(refused(read_dc_plane(1, 9, &[0xA5, 0xFF], &[0; 9], &mut out)), (12, 8, 2));
+    assert_eq!(refused(read_dc_plane(1, 9, &[0xA5, 0xFF, 0x01], &[0; 9], &mut out)), (13, 8, 1));
+    assert_eq!(refused(read_dc_plane(1, 17, &[0xFF, 0x00, 0xA5, 0xFF, 0xD9], &[0; 17], &mut out)), (13, 16, 3));
+}
+
+/// 14: the byte of the 16th bit. 15: the byte of the code's last bit. A bit's byte is the FF, never its 00.
+#[test]
+fn the_byte_of_a_code() {
+    assert_eq!(ac_refusal(T, &[0xFF, 0x00, 0xFF, 0x00], &[0; 63]), (14, 0, 2));
+    assert_eq!(ac_refusal(T, &[0xFF, 0x00, 0xC0], &[0; 63]), (14, 0, 2));
+    // three bits of 67, eight of the first FF, five of the second, at byte 3
+    assert_eq!(ac_refusal(T, &[0x67, 0xFF, 0x00, 0xFF, 0x00, 0x00], &[0; 126]), (14, 1, 3));
+    // 10 is 02, which refinement does not use; in 67 00 it is the last bit of byte 0 and the first of byte 1
+    let unused = coded(&[0x00, 0x01, 0x02]);
+    assert_eq!(ac_refusal(unused, &[0xBF], &[0; 63]), (15, 0, 0));
+    assert_eq!(ac_refusal(unused, &[0x67, 0x00, 0x00], &threes(1)), (15, 0, 1));
+    // behind 01 1 and 13 corrections
+    assert_eq!(ac_refusal(unused, &[0x7F, 0xFF, 0x00, 0xBF], &threes(13)), (15, 0, 3));
+}
+
+/// 16: the byte of the last correction bit, else of the sign bit, else of the code's last bit.
+#[test]
+fn the_byte_where_a_block_is_full() {
+    // 10 and 63 corrections: 65 bits
+    assert_eq!(ac_refusal(T, &[0x80, 0, 0, 0, 0, 0, 0, 0, 0, 0], &threes(63)), (16, 0, 8));
+    let stuffed = [&[0xBF][..], &[0xFF, 0x00].repeat(8)].concat();
+    assert_eq!(ac_refusal(T, &stuffed, &threes(63)), (16, 0, 15));
+    // 01 1 and 63 corrections: 66 bits
+    assert_eq!(ac_refusal(T, &[0x60, 0, 0, 0, 0, 0, 0, 0, 0x3F], &threes(63)), (16, 0, 8));
+    // the one code is 0, for F1: 0 s and a correction, 0 s, 0 s, then 0 in byte 0 and its sign in byte 1, with 14 zeros left for 16
+    let counts = [1, 0, 0, 0, 0, 0, 0, 0, 0, 0, 0, 0, 0, 0, 0, 0];
+    assert_eq!(ac_refusal(Table { counts: &counts, codes: &[0xF1] }, &[0x00, 0x80, 0x00], &threes(1)), (16, 0, 1));
+    // 10 and a correction, 10, 10, then 10 in byte 0 and byte 1, with 14 zeros left for 16
+    assert_eq!(ac_refusal(T, &[0x95, 0x00, 0x00], &threes(1)), (16, 0, 1));
+    // 14 corrections in BF FF, then three times 10 in byte 3, the last with one zero left
+    assert_eq!(ac_refusal(T, &[0xBF, 0xFF, 0x00, 0xAB], &threes(14)), (16, 0, 3));
+}
+
+/// 17: the byte of e's last bit. With r 0 there is no e, and a run of one block never passes the last one.
+#[test]
+fn the_byte_of_a_run() {
+    assert_eq!(read_ac_plane(1, 1, T, &[0x3F], &[0; 63], &mut [7; 63]), Ok(63));
+    // 00 is r 1: its code, and e in the same byte; or its code behind 01 1 and three corrections, and e in byte 1
+    let runs = coded(&[0x10, 0x01, 0x30]);
+    assert_eq!(ac_refusal(runs, &[0x1F], &[0; 63]), (17, 0, 0));
+    assert_eq!(ac_refusal(runs, &[0x7C, 0x00], &threes(3)), (17, 0, 1));
+    // 10 is r 3: behind 01 1 and 01 1 its code ends byte 0, and e stands in byte 1
+    assert_eq!(ac_refusal(runs, &[0x6E, 0x00, 0x00], &[0; 63]), (17, 0, 1));
+    assert_eq!(ac_refusal(runs, &[0x6E, 0xFF, 0x00], &[0; 63]), (17, 0, 1));
+    // behind a stuffed FF: 01 1 and 13 corrections, then 10 111
+    assert_eq!(ac_refusal(runs, &[0x7F, 0xFF, 0x00, 0xBF], &threes(13)), (17, 0, 3));
+    // of two blocks 00 0 ends both, 00 1 one more; or 01 1 and 00 end the first, and 10 000 goes past the second
+    assert_eq!(read_ac_plane(1, 2, runs, &[0x1F], &[0; 126], &mut [7; 126]), Ok(126));
+    assert_eq!(ac_refusal(runs, &[0x20], &[0; 126]), (17, 0, 0));
+    assert_eq!(ac_refusal(coded(&[0x00, 0x01, 0x30]), &[0x64, 0x00], &[0; 126]), (17, 1, 1));
+}
+
+#[test]
+fn every_other_refusal_names_no_byte() {
+    let (zero, high, mut out, mut bytes) = ([0i32; 63], [2048i32; 63], [7i32; 63], [7u8; 1]);
+    assert_eq!(refused(read_ac_plane(5, 1, T, &[0x3F], &zero, &mut out)), (20, 0, 0));
+    assert_eq!(refused(read_ac_plane(1, 2, T, &[0x3F], &zero, &mut out)), (21, 0, 0));
+    assert_eq!(refused(read_ac_plane(1, 1, coded(&[0, 1, 1]), &[0x3F], &zero, &mut out)), (10, 0, 0));
+    assert_eq!(refused(read_ac_plane(1, 1, T, &[0x3F], &high, &mut out)), (11, 0, 0));
+    assert_eq!(refused(read_ac_plane(1, 1, T, &[0x3F], &zero, &mut out[..62])), (9, 63, 0));
+    assert_eq!(refused(read_ac_plane(1, 1, T, &[0x3F, 0xFF], &zero, &mut out)), (18, 1, 0));
+    assert_eq!(refused(read_dc_plane(0, 1, &[0xFF], &[0], &mut out)), (20, 0, 0));
+    assert_eq!(refused(read_dc_plane(1, 1, &[0xBF, 0xFF], &[0], &mut out)), (18, 1, 0));
+    assert_eq!(refused(write_dc_plane(1, 8, &[1; 8], &mut bytes)), (9, 2, 0));
+    assert_eq!(refused(write_ac_plane(1, 1, coded(&[0x10, 0x01, 0xF0]), &zero, &mut bytes)), (19, 0, 0));
+    assert_eq!(refused(list_packets(&picture(&[]), &mut bytes)), (9, 38, 0));
+    assert_eq!(refused(inverse_transform(0, 1, &[2048; 64], &[1; 64], &mut [7; 64])), (11, 0, 0));
+}
+
+#[test]
+fn a_refusal_in_words() {
+    let said = |data: &[u8]| read_ac_plane(1, 1, T, data, &[0; 63], &mut [7; 63]).unwrap_err().to_string();
+    assert_eq!(said(&[0xFF]), "the data end early (12, block 0, byte 1)");
+    assert_eq!(said(&[0xFF, 0x01]), "an FF has no 00 after it (13, block 0, byte 0)");
+    assert_eq!(said(&[0xFF, 0x00, 0xFF, 0x00]), "16 bits and no code (14, block 0, byte 2)");
+    assert_eq!(said(&[0x43]), "the padding is not ones, or bytes are left (18, place 1)");
+    assert_eq!(Error { number: 17, place: 4, second: 9 }.to_string(), "an end run passes the last block (17, block 4, byte 9)");
 }
 
 #[test]
@@ -122,7 +240,7 @@ fn what_a_preview_owes() {
     let mut bad = ones;
     bad[8] = 256;
     bad[20] = 0;
-    for (left, quantisers, room, refusal) in [(5, &ones[..], 66, (20, 0)), (4, &ones[..63], 66, (21, 0)), (4, &bad[..], 66, (22, 8)), (4, &ones[..], 63, (9, 64))] {
+    for (left, quantisers, room, refusal) in [(5, &ones[..], 66, (20, 0, 0)), (4, &ones[..63], 66, (21, 0, 0)), (4, &bad[..], 66, (22, 8, 0)), (4, &ones[..], 63, (9, 64, 0))] {
         let mut out = [7u32; 66];
         assert_eq!(refused(preview_owes(left, quantisers, &mut out[..room])), refusal);
         assert!(out[..room].iter().all(|&n| n == 0) && out[room..].iter().all(|&n| n == 7));
@@ -148,7 +266,7 @@ fn merged() {
     let mut four = [0u16; 4];
     assert_eq!(merge(srgb, 4, &[0, 1, 10, 255], None, &mut four), Ok(4));
     assert_eq!(four, [0, 20, 199, 65535]);
-    assert_eq!(refused(merge(Setting { base_transform: true, ..plain(4) }, 1, &[1], None, &mut out)), (20, 0));
+    assert_eq!(refused(merge(Setting { base_transform: true, ..plain(4) }, 1, &[1], None, &mut out)), (20, 0, 0));
 }
 
 /// S11 and its like: at Rb = Rh the straight curve leaves what step 1 gives. Behind them case f, four planes deeper.
@@ -212,6 +330,6 @@ fn three_components() {
     let srgb = Setting { rb: 8, rh: 0, rr: 1, curve: Curve::Srgb, matrix: None, ..setting };
     assert_eq!(merge(srgb, 2, &base, None, &mut out), Ok(6));
     assert_eq!(out, [23357, 65535, 45002, 65535, 47385, 65535, 7]);
-    assert_eq!(refused(merge(setting, 2, &base, Some(&residual), &mut out[..5])), (9, 6));
+    assert_eq!(refused(merge(setting, 2, &base, Some(&residual), &mut out[..5])), (9, 6, 0));
     assert_eq!(out, [0, 0, 0, 0, 0, 65535, 7]);
 }
