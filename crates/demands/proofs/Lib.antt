@@ -14,6 +14,7 @@ pub mod Grey
 pub mod Preview
 pub mod PreviewResults
 pub mod PreviewLaws
+pub mod Byte
 pub mod Shams
 pub mod Practice
 pub mod Written

@@ -6,6 +6,7 @@ pub mod Cases
 pub mod Srgb
 pub mod Grey
 pub mod Preview
+pub mod Byte
 pub mod Shams
 pub mod Practice
 pub mod Written

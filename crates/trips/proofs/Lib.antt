@@ -1,6 +1,8 @@
 pub mod Trip
 pub mod CodeTrip
 pub mod Words
+pub mod Asked
+pub mod AskedPlanes
 pub mod Closing
 pub mod DcTrip
 pub mod AcTokens
