@@ -168,10 +168,17 @@ module _ (bytes : List ℕ) (k : ℕ) (C E : Type 0) where
       inl (
         refl,
         record {
-          pending = p; common = c; rest = r; rest′ = r′; seen = seen; last = last; here = refl; there = refl;
+          pending = p;
+          common = c;
+          rest = r;
+          rest′ = r′;
+          seen = seen;
+          last = last;
+          here = refl;
+          there = refl;
           facts = record { upto = f .upto; clean = f .clean; ends = f .ends; held = inr t; whole = f .whole; behind = f .behind; before = f .before; pair = f .pair };
         },
-        t
+        t,
       )
   from-both [] [] r r′ seen last f =
       let z : seen ≡ k = omega (arith, f .upto) in
@@ -222,7 +229,7 @@ module _ (bytes : List ℕ) (k : ℕ) (C E : Type 0) where
           let last′ : u .last ≡ h .last = ap (λ (x : Source). x .last) (h .there) in
           inl (
             ap (stop n) (last ∙ sym last′),
-            record { below = omega (arith, f .upto); later = λ e. omega arith; apart = subst Apart (sym last) (f .before); marker = λ e. absurd (omega arith); pair = λ g. subst Paired (sym last) (f .pair (omega arith)) }
+            record { below = omega (arith, f .upto); later = λ e. omega arith; apart = subst Apart (sym last) (f .before); marker = λ e. absurd (omega arith); pair = λ g. subst Paired (sym last) (f .pair (omega arith)) },
           )
 
   past-on : {A B : Type 0} (f : A → Reader B) → ((a : A) → Law (f a)) → (o : Out A) → Past o → Past (andThen f o)
