@@ -13,10 +13,9 @@ use borrow.Rule.Slice.PartMut.{putMid, drop-put, same-len-mid, mid-len}
 use Rattle.laws.proofs.Integers.{split}
 use Rattle.laws.proofs.Parts.{drop-later, take-put-end}
 use Rattle.answers.specs.Verdict.{refusalAt}
-use Rattle.bit_rules.specs.Source.{start, got, stopped}
+use Rattle.bit_rules.specs.Source.{Stop, start, got, stopped}
 use Rattle.bits.specs.Code.{unread, sourceOf}
 use Rattle.bits.proofs.Taking.{start-source}
-use Rattle.bit_rules.specs.declared.Stop.{Stop}
 use Rattle.bits.specs.declared.Cursor.{Cursor}
 use Rattle.bit_rules.specs.Table.{Table}
 use Rattle.plane_rules.specs.Plane.{Plane, read, onto}

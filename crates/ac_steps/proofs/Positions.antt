@@ -9,10 +9,9 @@ use native.Mathlib.Omega.{arith}
 use lib.IntN.{ℤ, pos}
 use lib.ListN.{length, getD, take, drop, set, length-set, drop-of-length-le}
 use lib.Seq.{drop-cons, take-suc-set, append-snoc, take-all}
-use Rattle.bit_rules.specs.Source.{Out, got, stopped, stop, takeBit}
+use Rattle.bit_rules.specs.Source.{Stop, Out, got, stopped, stop, takeBit}
 use Rattle.bit_rules.specs.Reader.{andThen, done}
 use Rattle.bits.specs.Code.{sourceOf}
-use Rattle.bit_rules.specs.declared.Stop.{Stop}
 use Rattle.bits.specs.declared.Cursor.{Cursor}
 use Rattle.bit_rules.specs.Table.{Table}
 use Rattle.plane_rules.specs.Task.{Task, walk, atZero, pass}
@@ -37,8 +36,8 @@ front-one values v (stopped x) = refl
 
 front-all : (bytes : List ℕ) (values : List ℤ) (r : Block) → inFront values (blockOf bytes [] r) ≡ blockOf bytes values r
 unfolding inFront blockOf
-front-all bytes values (Done task c) = ap (λ (l : List ℤ). got (l, openOf task) (sourceOf bytes c)) (append-nil values)
-front-all bytes values (Stopped x) = refl
+front-all bytes values (Done c task) = ap (λ (l : List ℤ). got (l, openOf task) (sourceOf bytes c)) (append-nil values)
+front-all bytes values (Stopped number c) = refl
 
 pub at-first : {bytes : List ℕ} {T : Table} {left : ℕ} {values now : List ℤ} {o : Option Task} {c : Cursor} → length now ≡ length values → At bytes T left values now o o c c 0
 at-first l = record { within = omega arith; long = l; same = front-none _ }
@@ -98,9 +97,10 @@ module _ {bytes : List ℕ} {values before now : List ℤ} {o : Option Task} {t 
     carries-zero z = record { long = λ l. length-set now j (atZero t) ∙ k .long l; same = λ T left o₀ c₀ a. at-turn (k .same T left o₀ c₀ a) h refl (rw z) }
 
     module _ (n : getD values j (pos 0) ≡ pos 0 → ⊥) where
-      pub carries-stopped : {x : Stop} → fixing (getD values j (pos 0)) (takeBit (sourceOf bytes d)) ≡ stopped x → Closes bytes values before now o c i (Stopped x)
+      pub carries-stopped : {m : ℕ} {g : Cursor} → fixing (getD values j (pos 0)) (takeBit (sourceOf bytes d)) ≡ stopped (stop m (g .last))
+          → Closes bytes values before now o c i (Stopped m g)
       unfolding blockOf stays
-      carries-stopped {x} e = record { same = λ T left o₀ c₀ a. at-turn-stopped (k .same T left o₀ c₀ a) h refl (at-value t _ _ (stopped x) n e) }
+      carries-stopped {m} {g} e = record { same = λ T left o₀ c₀ a. at-turn-stopped (k .same T left o₀ c₀ a) h refl (at-value t _ _ (stopped (stop m (g .last))) n e) }
 
       pub carries-fixed : {v : ℤ} {g : Cursor} → fixing (getD values j (pos 0)) (takeBit (sourceOf bytes d)) ≡ got v (sourceOf bytes g)
           → Carries bytes values before (set now j v) o (some t) c g i (j + 1)
@@ -110,9 +110,9 @@ module _ {bytes : List ℕ} {values before now : List ℤ} {o : Option Task} {t 
 -- ---- a walk
 
 module _ {bytes : List ℕ} {values before now : List ℤ} {o : Option Task} {s : Option Bool} {c d : Cursor} {i j : ℕ} where
-  pub carries-past : {m : ℕ} → Carries bytes values before now o (some (walk m s)) c d i j → length values ≤ j → Closes bytes values before now o c i (Stopped (stop 16 (d .last)))
+  pub carries-past : {m : ℕ} → Carries bytes values before now o (some (walk m s)) c d i j → length values ≤ j → Closes bytes values before now o c i (Stopped 16 d)
   unfolding blockOf blockEnd sourceOf
-  carries-past k h = carries-end k (Stopped (stop 16 (d .last))) h refl
+  carries-past k h = carries-end k (Stopped 16 d) h refl
 
   pub carries-passed : (m : ℕ) → Carries bytes values before now o (some (walk m s)) c d i j → j < length values → getD values j (pos 0) ≡ pos 0 → (m ≡ 0 → ⊥)
       → Carries bytes values before (set now j (pos 0)) o (some (walk (m - 1) s)) c d i (j + 1)

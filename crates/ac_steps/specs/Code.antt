@@ -38,5 +38,5 @@ pub record Closes (bytes : List ℕ) (values before now : List ℤ) (o : Option 
       → blockOf bytes now r ≡ acBlock T left o₀ values (sourceOf bytes c₀)
 
 abbrev pub Steps : List ℕ → List ℤ → List ℤ → List ℤ → Option Task → Cursor → ℕ → Step → Type 0
-Steps bytes values before now o c i (On j d) = Carries bytes values before now o none c d i j × (i < j)
+Steps bytes values before now o c i (On d j) = Carries bytes values before now o none c d i j × (i < j)
 Steps bytes values before now o c i (Over r) = Closes bytes values before now o c i r

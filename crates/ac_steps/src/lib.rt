@@ -16,7 +16,7 @@ use bits::Cursor;
 
 // What a task comes to: it is done, and this is the next position; or the block is over.
 pub enum Step {
-    On(usize, Cursor),
+    On(Cursor, usize),
     Out(Block),
 }
 
@@ -44,7 +44,7 @@ fn walk(
         if v == 0 {
             if n == 0 {
                 destination[i] = ac_values::aimed(leave, sign);
-                return Step::On(i + 1, cursor);
+                return Step::On(cursor, i + 1);
             }
             destination[i] = 0;
             n -= 1;
@@ -52,7 +52,7 @@ fn walk(
         } else {
             let f = ac_values::correct(data, v, cursor);
             match f {
-                Fixed::Stopped(x) => return Step::Out(Block::Stopped(x)),
+                Fixed::Stopped(n, end) => return Step::Out(Block::Stopped(n, end)),
                 Fixed::Now(w, next) => {
                     destination[i] = w;
                     cursor = next;
@@ -61,7 +61,7 @@ fn walk(
             }
         }
     }
-    Step::Out(ac_tasks::no_place(cursor))
+    Step::Out(Block::Stopped(16, cursor))
 }
 
 // The rest of a block in an end run: corrections alone.
@@ -87,7 +87,7 @@ fn rest(
         } else {
             let f = ac_values::correct(data, v, cursor);
             match f {
-                Fixed::Stopped(x) => return Step::Out(Block::Stopped(x)),
+                Fixed::Stopped(n, end) => return Step::Out(Block::Stopped(n, end)),
                 Fixed::Now(w, next) => {
                     destination[i] = w;
                     cursor = next;

@@ -10,9 +10,8 @@ use lib.IntN.{ℤ, pos, negsuc, negℤ, _+ℤ_, _-ℤ_, _*ℤ_, +ℤ-idr}
 use lib.Signed.{ltZ}
 use borrow.Author.Tests.{ltb-true}
 use Rattle.bit_rules.specs.Digits.{bin}
-use Rattle.bit_rules.specs.Source.{got, stopped, takeBit}
+use Rattle.bit_rules.specs.Source.{got, stopped, stop, takeBit}
 use Rattle.bits.specs.Code.{sourceOf}
-use Rattle.bit_rules.specs.declared.Stop.{Stop}
 use Rattle.bits.specs.declared.Cursor.{Cursor}
 use Rattle.bit_rules.proofs.Digits.{bin-small}
 use Rattle.bit_rules.specs.Number.{takeNumber}
@@ -34,7 +33,7 @@ module _ {bytes : List ℕ} {n : ℕ} {c₀ c : Cursor} {v left : ℕ} (a : Now 
   pub now-small : n < 15 → v < 32768
   now-small h = omega (arith, a .small, pow-mono {i = n - left} {j = 15} (omega arith))
 
-  pub now-end : left ≤ 0 → Counts bytes n c₀ (Is v c)
+  pub now-end : left ≤ 0 → Counts bytes n c₀ (Is c v)
   unfolding numberOf takeNumber
   now-end z =
       let e : left ≡ 0 = omega arith in
@@ -46,9 +45,9 @@ module _ {bytes : List ℕ} {n : ℕ} {c₀ c : Cursor} {v left : ℕ} (a : Now 
     next : takeNumber (suc (left - 1)) v (sourceOf bytes c) ≡ takeNumber n 0 (sourceOf bytes c₀)
     next = let e : left ≡ suc (left - 1) = omega arith in subst (λ (k : ℕ). takeNumber k v (sourceOf bytes c) ≡ takeNumber n 0 (sourceOf bytes c₀)) e (a .same)
 
-    pub now-stopped : {x : Stop} → takeBit (sourceOf bytes c) ≡ stopped x → Counts bytes n c₀ (Stopped x)
+    pub now-stopped : {m : ℕ} {d : Cursor} → takeBit (sourceOf bytes c) ≡ stopped (stop m (d .last)) → Counts bytes n c₀ (Stopped m d)
     unfolding numberOf takeNumber
-    now-stopped {x} e = record { same = rw e at next; small = λ w d i. let z : _≡_ {A = ℕ} 0 1 = cc in absurd (omega arith) }
+    now-stopped e = record { same = rw e at next; small = λ w d i. let z : _≡_ {A = ℕ} 0 1 = cc in absurd (omega arith) }
 
     pub now-turn : {b : Bool} {d : Cursor} → takeBit (sourceOf bytes c) ≡ got b (sourceOf bytes d) → Now bytes n c₀ d (2 * v + bin b) (left - 1)
     unfolding takeNumber

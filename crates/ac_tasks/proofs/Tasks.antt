@@ -30,16 +30,16 @@ over-on (suc n) h = rw sub-one
 -- ---- the end of a block
 
 module _ {task : Open} {c : Cursor} where
-  pub ends-none : task ≡ Nothing → BlockEnds task c (Done Nothing c)
+  pub ends-none : task ≡ Nothing → BlockEnds task c (Done c Nothing)
   unfolding blockEnd blockOf
   ends-none e = rw e (record { same = λ bytes. refl })
 
   module _ {job : Job} (e : task ≡ Doing job) where
-    pub ends-walk : {n : ℕ} {sign : Option Bool} → taskOf job ≡ walk n sign → BlockEnds task c (Stopped (stop 16 (c .last)))
+    pub ends-walk : {n : ℕ} {sign : Option Bool} → taskOf job ≡ walk n sign → BlockEnds task c (Stopped 16 c)
     unfolding blockEnd blockOf sourceOf
     ends-walk q = record { same = λ bytes. rw (e, q) }
 
-    pub ends-run : {n : ℕ} {next : Open} → job ≡ Ended n → openOf next ≡ over (openOf (Doing job)) → BlockEnds task c (Done next c)
+    pub ends-run : {n : ℕ} {next : Open} → job ≡ Ended n → openOf next ≡ over (openOf (Doing job)) → BlockEnds task c (Done c next)
     unfolding blockEnd blockOf
     ends-run q f = record { same = λ bytes. rw (e, f, q) }
 

@@ -4,7 +4,7 @@ use mathlib.Core.List.{List, []}
 use mathlib.Core.Option.{Option, none, some}
 use Prim.Native.Nat.{ℕ, _^_, _<_}
 use lib.IntN.{ℤ}
-use Rattle.bit_rules.specs.Source.{Out, got, stopped}
+use Rattle.bit_rules.specs.Source.{Out, got, stopped, stop}
 use Rattle.bits.specs.Code.{sourceOf}
 use Rattle.bits.specs.declared.Cursor.{Cursor}
 use Rattle.plane_rules.specs.Task.{Task, walk, ended}
@@ -31,22 +31,22 @@ openOf Nothing = none
 openOf (Doing job) = some (taskOf job)
 
 unfoldable pub numberOf : List ℕ → Number → Out ℕ
-numberOf bytes (Is v c) = got v (sourceOf bytes c)
-numberOf bytes (Number.Stopped x) = stopped x
+numberOf bytes (Is c v) = got v (sourceOf bytes c)
+numberOf bytes (Number.Stopped number c) = stopped (stop number (c .last))
 
 unfoldable pub askedOf : List ℕ → Asked → Out Task
-askedOf bytes (Asking job c) = got (taskOf job) (sourceOf bytes c)
-askedOf bytes (Asked.Stopped x) = stopped x
+askedOf bytes (Asking c job) = got (taskOf job) (sourceOf bytes c)
+askedOf bytes (Asked.Stopped number c) = stopped (stop number (c .last))
 
 -- these are the new values of a block that was read
 unfoldable pub blockOf : List ℕ → List ℤ → Block → Out (List ℤ × Option Task)
-blockOf bytes values (Done task c) = got (values, openOf task) (sourceOf bytes c)
-blockOf bytes values (Block.Stopped x) = stopped x
+blockOf bytes values (Done c task) = got (values, openOf task) (sourceOf bytes c)
+blockOf bytes values (Block.Stopped number c) = stopped (stop number (c .last))
 
 -- the number of the next n bits, and that it has no more than n
 pub record Counts (bytes : List ℕ) (n : ℕ) (c : Cursor) (r : Number) : Type 0 where
   pub same : numberOf bytes r ≡ takeNumber n 0 (sourceOf bytes c)
-  pub small : (v : ℕ) (d : Cursor) → r ≡ Is v d → v < 2 ^ n
+  pub small : (v : ℕ) (d : Cursor) → r ≡ Is d v → v < 2 ^ n
 
 -- at the end of a block no bit is taken, whatever the data
 pub record BlockEnds (task : Open) (c : Cursor) (r : Block) : Type 0 where

@@ -9,6 +9,6 @@ use Rattle.ac_values.specs.declared.Fixed.the-variants.{Now, Stopped}
 use Rattle.ac_values.specs.Code.{fixedOf}
 
 -- a value with the data left behind its bit; a stop with its number
-pub answers : (fixedOf (7 ∷ 8 ∷ []) (Now (negsuc 4) (record { at = 1; left = 1; byte = 0x80; last = 0 })) ≡ got (negsuc 4) (source (true ∷ []) (8 ∷ []) 1 0)) × (fixedOf [] (Stopped (stop 13 3)) ≡ stopped (stop 13 3))
+pub answers : (fixedOf (7 ∷ 8 ∷ []) (Now (negsuc 4) (record { at = 1; left = 1; byte = 0x80; last = 0 })) ≡ got (negsuc 4) (source (true ∷ []) (8 ∷ []) 1 0)) × (fixedOf [] (Stopped 13 (record { at = 5; left = 1; byte = 0x80; last = 3 })) ≡ stopped (stop 13 3))
 unfolding fixedOf sourceOf highs
 answers = (refl, refl)

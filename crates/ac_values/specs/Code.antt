@@ -4,7 +4,7 @@ use mathlib.Core.List.{List}
 use mathlib.Core.Option.{Option, none, some}
 use Prim.Native.Nat.{ℕ}
 use lib.IntN.{ℤ, pos}
-use Rattle.bit_rules.specs.Source.{Out, got, stopped}
+use Rattle.bit_rules.specs.Source.{Out, got, stopped, stop}
 use Rattle.bit_rules.specs.Reader.{andThen, done}
 use Rattle.bits.specs.Code.{sourceOf}
 use Rattle.plane_rules.specs.Task.{unit}
@@ -14,7 +14,7 @@ use Rattle.ac_values.specs.declared.Fixed.the-variants.{Now, Stopped}
 
 unfoldable pub fixedOf : List ℕ → Fixed → Out ℤ
 fixedOf bytes (Now value c) = got value (sourceOf bytes c)
-fixedOf bytes (Stopped x) = stopped x
+fixedOf bytes (Stopped number c) = stopped (stop number (c .last))
 
 -- a value corrected by the bit that was taken
 unfoldable pub fixing : ℤ → Out Bool → Out ℤ

@@ -5,14 +5,13 @@ ghost use lib.IntN.{natAbs};
 ghost use Rattle.bit_rules.specs.Source.{takeBit};
 ghost use Rattle.bits.specs.Code.{sourceOf};
 ghost use Rattle.ac_values.specs.Code.{fixedOf, fixing, aimed};
-use bit_rules::Stop;
 use bits::Cursor;
 use bits::Taken;
 
-// A corrected value and the data left, or why there is no bit.
+// A corrected value, or why there is no bit; and the cursor behind it.
 pub enum Fixed {
     Now(i32, Cursor),
-    Stopped(Stop),
+    Stopped(u32, Cursor),
 }
 
 // "each value already nonzero takes one correction bit"
@@ -23,7 +22,7 @@ pub fn correct(data: &[u8], value: i32, c: Cursor) -> Fixed
     let t = bits::reader::bit_at(data, c);
     match t {
         Taken::Bit(b, next) => Fixed::Now(ac_tasks::corrected(value, b), next),
-        Taken::Stopped(x) => Fixed::Stopped(x),
+        Taken::Stopped(n, end) => Fixed::Stopped(n, end),
     }
 }
 

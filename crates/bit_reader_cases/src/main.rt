@@ -51,10 +51,10 @@ fn say_stop(data: &[u8], c: Cursor, number: u64, offset: usize) {
 // This many bits.
 fn show(data: &[u8], count: usize) {
     let mut c = Cursor {
+        last: 0,
         at: 0,
         left: 0,
         byte: 0,
-        last: 0,
     };
     let mut i = 0;
     while i < count {
@@ -64,8 +64,8 @@ fn show(data: &[u8], count: usize) {
                 say_bit(bit, next.last);
                 c = next;
             }
-            Taken::Stopped(x) => {
-                return say_stop(data, c, x.number as u64, x.offset);
+            Taken::Stopped(number, end) => {
+                return say_stop(data, c, number as u64, end.last);
             }
         }
         i += 1;

@@ -8,8 +8,7 @@ use Rattle.laws.specs.Index.{every, tab}
 use Rattle.laws.specs.First.{firstFail, orHere}
 use Rattle.laws.specs.declared.Found.the-variants.{At, Nothing}
 use Rattle.bit_rules.specs.Digits.{digits}
-use Rattle.bit_rules.specs.declared.Stop.{Stop}
-use Rattle.bit_rules.specs.Source.{Source, source, start, Out, got, stopped, stop, opened, afterFF, nextByte, takeFrom, takeBit}
+use Rattle.bit_rules.specs.Source.{Source, Stop, source, start, Out, got, stopped, stop, opened, afterFF, nextByte, takeFrom, takeBit}
 use Rattle.bit_rules.specs.Table.{Table, table, codeCount, kraft, holds, distinct, goodTable}
 use Rattle.bit_rules.specs.Read.{codeFrom, takeCode}
 use Rattle.bit_rules.specs.Write.{placeOf, codeAt, word}

@@ -10,8 +10,7 @@ use lib.ListN.{length}
 use borrow.Author.Tests.{eqb-true}
 use Rattle.laws.proofs.Choices.{by-test}
 use Rattle.bit_rules.specs.Digits.{digits}
-use Rattle.bit_rules.specs.declared.Stop.{Stop}
-use Rattle.bit_rules.specs.Source.{Source, Out, got, stopped, opened, afterFF, nextByte, takeFrom, takeBit}
+use Rattle.bit_rules.specs.Source.{Source, Stop, Out, got, stopped, opened, afterFF, nextByte, takeFrom, takeBit}
 
 -- the first of the bits in hand
 pub record InHand (s : Source) (b : Bool) (t : Source) : Type 0 where

@@ -5,7 +5,6 @@ use Prim.Native.Nat.{ℕ, zero, suc, _+_, _/_, _^_}
 use lib.Dec.{eqb}
 use Rattle.laws.specs.Index.{every}
 use Rattle.bit_rules.specs.Digits.{odd, digits}
-use Rattle.bit_rules.specs.declared.Stop.{Stop}
 
 -- B3, B8: the unread bits of the byte in hand, the bytes not yet read, how many were read, and "the offset of the byte" that the last bit "came from"
 pub record Source : Type 0 where
@@ -21,7 +20,12 @@ source pending coming seen last = record { pending = pending; coming = coming; s
 abbrev pub start : List ℕ → Source
 start bytes = source [] bytes 0 0
 
--- what a reader answers: a value and what is left, or a number of N4's table and an offset
+-- B8: why reading stops: a number of N4's table, and "the offset of the byte" that the last bit asked for "came from, or of the byte that was missing"
+pub record Stop : Type 0 where
+  pub number : ℕ
+  pub offset : ℕ
+
+-- what a reader answers: a value and what is left, or a stop
 pub data Out (A : Type 0) : Type 0 where
   got : A → Source → Out A
   stopped : Stop → Out A

@@ -5,8 +5,7 @@ use mathlib.Core.List.{List, _++_}
 use Prim.Native.Nat.{ℕ}
 use lib.ListN.{length}
 use Rattle.laws.specs.declared.Found.the-variants.{At}
-use Rattle.bit_rules.specs.Source.{Source, got, stopped, stop}
-use Rattle.bit_rules.specs.declared.Stop.{Stop}
+use Rattle.bit_rules.specs.Source.{Source, Stop, got, stopped, stop}
 use Rattle.bit_rules.specs.Gives.{Gives}
 use Rattle.bit_rules.specs.Table.{Table}
 use Rattle.bit_rules.specs.Read.{takeCode}

@@ -70,7 +70,7 @@ L κ = T′.the-laws (namedLft 1 0 tt (κ, tt))
 
 module _ {M : Type 1} (𝓤 : URA M) (H : Heap 𝓤) (A : Atoms 𝓤) (W : Given 𝓤 H A) (κ : Lft) where
   abbrev fields : BitReader → Values (D κ .parts)
-  fields d = (d .«data», (d .at, (d .left, (d .byte, (d .last, tt)))))
+  fields d = (d .«data», (d .last, (d .at, (d .left, (d .byte, tt)))))
 
   -- a reader is Copy: it gives its data and its cursor, and is kept
   apart : (d : BitReader) → ent 𝓤 (sem 𝓤 H A (Own κ d)) (sep 𝓤 (sem 𝓤 H A (Both κ (d .«data») (cursorOf d))) (sem 𝓤 H A (Own κ d)))
@@ -87,7 +87,7 @@ module _ {M : Type 1} (𝓤 : URA M) (H : Heap 𝓤) (A : Atoms 𝓤) (W : Given
   joined s c =
       qed W (‵ (Both κ s c) ∷ []) ∵ fsplit ! $ move ! (1 ∷ []) $ fsplit ! $
       -- [the cursor; nothing; the data]
-      use1 W (given (C′.lowered c ∷ [] ≡ C′.lowered c ∷ []) (‵ (all-own (C.the-type .parts) C′.the-laws (c .at, (c .left, (c .byte, (c .last, tt))))))) (own-open 𝓤 H A W C.the-type C′.the-laws (c .at, (c .left, (c .byte, (c .last, tt)))) (C′.lowered c)) $ learn ! (λ _.
+      use1 W (given (C′.lowered c ∷ [] ≡ C′.lowered c ∷ []) (‵ (all-own (C.the-type .parts) C′.the-laws (c .last, (c .at, (c .left, (c .byte, tt))))))) (own-open 𝓤 H A W C.the-type C′.the-laws (c .last, (c .at, (c .left, (c .byte, tt)))) (C′.lowered c)) $ learn ! (λ _.
       move ! (1 ∷ []) $ drop ! $ move ! (1 ∷ 0 ∷ []) $ fjoin ! $ by ! (own-shut 𝓤 H A W (D κ) (L κ) (fields (readerAt s c))))
 
 -- what a callee is passed, beside the lifetime's token

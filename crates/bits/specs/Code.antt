@@ -5,7 +5,7 @@ use Prim.Native.Nat.{ℕ, zero, suc, _*_, _/_, _%_}
 use denote.Ref.{RefT}
 use lib.Dec.{eqb}
 use lib.ListN.{drop}
-use Rattle.bit_rules.specs.Source.{Source, source, Out, got, stopped}
+use Rattle.bit_rules.specs.Source.{Source, source, Out, got, stopped, stop}
 use Rattle.bits.specs.declared.Cursor.{Cursor}
 use Rattle.bits.specs.declared.reader.BitReader.{BitReader}
 use Rattle.bits.specs.declared.Taken.{Taken}
@@ -27,7 +27,11 @@ unread = record { at = 0; left = 0; byte = 0; last = 0 }
 -- N15: what the code's answer stands for
 unfoldable pub takenOf : List ℕ → Taken → Out Bool
 takenOf bytes (Bit b c) = got b (sourceOf bytes c)
-takenOf bytes (Stopped x) = stopped x
+takenOf bytes (Stopped number c) = stopped (stop number (c .last))
+
+-- no bit, and the offset of the byte that was asked for
+abbrev pub noneOf : ℕ → ℕ → Cursor → Taken
+noneOf number offset c = Stopped number (record { last = offset; at = c .at; left = c .left; byte = c .byte })
 
 -- the highest bit of a byte, and the byte moved up by one
 unfoldable pub topOf : ℕ → ℕ → ℕ → ℕ → Taken

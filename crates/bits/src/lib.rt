@@ -1,24 +1,23 @@
 // Bits out of coded bytes, highest bit first, with 00 after FF (docs/RULES.md, B1 to B6, B8).
 pub mod reader;
 
-use bit_rules::Stop;
 ghost use mathlib.Core.Path.{_≡_};
 ghost use Rattle.laws.specs.Index.{every};
 ghost use Rattle.bit_rules.specs.Source.{takeBit, onlyPadding};
-ghost use Rattle.bits.specs.Code.{sourceOf, takenOf, topOf, highs};
+ghost use Rattle.bits.specs.Code.{sourceOf, takenOf, topOf, noneOf, highs};
 
-// Bytes read so far, the unread bits of the last one (`left` of them, the highest of `byte`), and the offset of the byte that the last bit came from.
+// The offset of the byte that the last bit asked for came from, bytes read so far, and the unread bits of the last one: `left` of them, the highest of `byte`.
 pub struct Cursor {
+    pub last: usize,
     pub at: usize,
     pub left: u8,
     pub byte: u8,
-    pub last: usize,
 }
 
-// A bit and what is left, with the offset of its byte; or why there is none, with the offset of the byte that was missing or broken.
+// A bit, or why there is none; and the cursor behind it, with the offset of its byte, or of the byte that was missing.
 pub enum Taken {
     Bit(bool, Cursor),
-    Stopped(Stop),
+    Stopped(u32, Cursor),
 }
 
 // "data end early"
@@ -34,10 +33,25 @@ fn top(at: usize, left: u8, byte: u8, last: usize) -> Taken
     Taken::Bit(
         byte >> 7 == 1,
         Cursor {
+            last,
             at,
             left,
             byte: (byte & 127) << 1,
-            last,
+        },
+    )
+}
+
+// No bit, and the offset of the byte that was asked for.
+fn none(number: u32, offset: usize, c: Cursor) -> Taken
+    ensures { λ r. ⌜ r ≡ noneOf number offset c ⌝ }
+{
+    Taken::Stopped(
+        number,
+        Cursor {
+            last: offset,
+            at: c.at,
+            left: c.left,
+            byte: c.byte,
         },
     )
 }
@@ -52,26 +66,17 @@ fn take_bit(data: &[u8], c: Cursor) -> Taken
         return top(at, left - 1, c.byte, c.last);
     }
     if data.len() <= at {
-        return Taken::Stopped(Stop {
-            number: DATA_END,
-            offset: at,
-        });
+        return none(DATA_END, at, c);
     }
     let b = data[at];
     if b != 255 {
         return top(at + 1, 7, b, at);
     }
     if data.len() <= at + 1 {
-        return Taken::Stopped(Stop {
-            number: DATA_END,
-            offset: at + 1,
-        });
+        return none(DATA_END, at + 1, c);
     }
     if data[at + 1] != 0 {
-        return Taken::Stopped(Stop {
-            number: BARE_FF,
-            offset: at,
-        });
+        return none(BARE_FF, at, c);
     }
     top(at + 2, 7, 255, at)
 }

@@ -11,10 +11,10 @@ ghost use Rattle.bits.specs.Code.{sourceOf, takenOf, cursorOf};
 // The data, and the numbers of a cursor in them.
 pub struct BitReader<'a> {
     pub data: &'a [u8],
+    pub last: usize,
     pub at: usize,
     pub left: u8,
     pub byte: u8,
-    pub last: usize,
 }
 
 // The next bit, and the cursor behind it.
@@ -24,10 +24,10 @@ pub fn next_bit<'a>(r: BitReader<'a>) -> Taken
     take_bit(
         r.data,
         Cursor {
+            last: r.last,
             at: r.at,
             left: r.left,
             byte: r.byte,
-            last: r.last,
         },
     )
 }
@@ -39,10 +39,10 @@ pub fn only_padding_left<'a>(r: BitReader<'a>) -> bool
     only_padding(
         r.data,
         Cursor {
+            last: r.last,
             at: r.at,
             left: r.left,
             byte: r.byte,
-            last: r.last,
         },
     )
 }
@@ -60,10 +60,10 @@ pub fn bit_at(data: &[u8], c: Cursor) -> Taken
 {
     next_bit(BitReader {
         data,
+        last: c.last,
         at: c.at,
         left: c.left,
         byte: c.byte,
-        last: c.last,
     })
 }
 
@@ -79,10 +79,10 @@ pub fn end_at(data: &[u8], c: Cursor) -> End
 {
     let r = BitReader {
         data,
+        last: c.last,
         at: c.at,
         left: c.left,
         byte: c.byte,
-        last: c.last,
     };
     End {
         padding: only_padding_left(r),

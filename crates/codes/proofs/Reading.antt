@@ -11,8 +11,7 @@ use lib.ListN.{length, getD, drop, drop-of-length-le}
 use lib.Seq.{drop-cons, drop-drop, getD-drop}
 use borrow.Author.Tests.{lt-ltb, le-ltb}
 use Rattle.bit_rules.specs.Digits.{bin}
-use Rattle.bit_rules.specs.Source.{Source, got, stopped, stop, takeBit}
-use Rattle.bit_rules.specs.declared.Stop.{Stop}
+use Rattle.bit_rules.specs.Source.{Source, Stop, got, stopped, stop, takeBit}
 use Rattle.bit_rules.specs.Table.{Table, codeCount, goodTable}
 use Rattle.bit_rules.specs.Read.{codeFrom, takeCode}
 use Rattle.bit_rules.proofs.Tables.{good, total-on}

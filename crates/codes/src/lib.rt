@@ -7,14 +7,13 @@ ghost use Rattle.bits.specs.Code.{sourceOf};
 ghost use Rattle.bit_rules.specs.Table.{table, codeCount, kraft, holds, distinct, goodTable};
 ghost use Rattle.bit_rules.specs.Read.{takeCode};
 ghost use Rattle.codes.specs.Code.{codedOf};
-use bit_rules::Stop;
 use bits::Cursor;
 use bits::Taken;
 
-// A value and what is left, or why there is none.
+// A value, or why there is none; and the cursor behind it.
 pub enum Coded {
     Value(u8, Cursor),
-    Stopped(Stop),
+    Stopped(u32, Cursor),
 }
 
 fn wide(x: u8) -> usize
@@ -118,7 +117,7 @@ pub fn take_code(counts: &[u8], values: &[u8], data: &[u8], c: Cursor) -> Coded
                 over = 2 * over + (b as usize);
                 cursor = next;
             }
-            Taken::Stopped(x) => return Coded::Stopped(x),
+            Taken::Stopped(n, end) => return Coded::Stopped(n, end),
         }
         let n = wide(counts[l]);
         if over < n {
@@ -128,8 +127,5 @@ pub fn take_code(counts: &[u8], values: &[u8], data: &[u8], c: Cursor) -> Coded
         place += n;
         l += 1;
     }
-    Coded::Stopped(Stop {
-        number: 14,
-        offset: cursor.last,
-    })
+    Coded::Stopped(14, cursor)
 }

@@ -10,10 +10,9 @@ use lib.ListN.{length, getD, take, drop, set, length-set, drop-of-length-le}
 use lib.Seq.{drop-cons, drop-set-lt, take-suc-set}
 use Rattle.laws.proofs.Parts.{drop-later}
 use Rattle.answers.specs.Verdict.{refusalAt}
-use Rattle.bit_rules.specs.Source.{start, got, stopped, takeBit}
+use Rattle.bit_rules.specs.Source.{Stop, start, got, stopped, takeBit}
 use Rattle.bits.specs.Code.{unread, sourceOf}
 use Rattle.bits.proofs.Taking.{start-source}
-use Rattle.bit_rules.specs.declared.Stop.{Stop}
 use Rattle.bits.specs.declared.Cursor.{Cursor}
 use Rattle.plane_rules.specs.Plane.{read, onto}
 use Rattle.plane_rules.specs.Dc.{newDc, dcBlocks}

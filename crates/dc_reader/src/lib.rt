@@ -32,10 +32,10 @@ fn read_dc_blocks(data: &[u8], values: &[i32], destination: &mut [i32]) -> Block
         (now (destination .entry)) (now (destination .exit)) r ⌝ }
 {
     let mut c = Cursor {
+        last: 0,
         at: 0,
         left: 0,
         byte: 0,
-        last: 0,
     };
     let mut i = 0;
     while i < values.len() {
@@ -45,10 +45,10 @@ fn read_dc_blocks(data: &[u8], values: &[i32], destination: &mut [i32]) -> Block
                 destination[i] = new_dc(values[i], b);
                 c = next;
             }
-            Taken::Stopped(x) => return Blocks::Refused(Refusal {
-                number: x.number,
+            Taken::Stopped(number, end) => return Blocks::Refused(Refusal {
+                number,
                 place: i,
-                second: x.offset,
+                second: end.last,
             }),
         }
         i += 1;

@@ -8,9 +8,8 @@ use Prim.Native.Nat.{ℕ, zero, suc, _+_, _*_, _/_, _<_}
 use native.Mathlib.Omega.{arith}
 use lib.IntN.{ℤ, pos, negsuc}
 use lib.ListN.{length, getD, drop, length-drop, take-append-drop}
-use Rattle.bit_rules.specs.Source.{Source, start, Out, got, stopped, takeBit}
+use Rattle.bit_rules.specs.Source.{Source, Stop, start, Out, got, stopped, takeBit}
 use Rattle.bit_rules.specs.Reader.{Reader, andThen}
-use Rattle.bit_rules.specs.declared.Stop.{Stop}
 use Rattle.bit_rules.specs.Table.{Table}
 use Rattle.bit_rules.proofs.Took.{Took, took}
 use Rattle.plane_rules.specs.Plane.{Plane, read, refusing, onto, inBlock}

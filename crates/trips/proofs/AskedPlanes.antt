@@ -12,9 +12,8 @@ use lib.ListN.{length, getD, drop}
 use Rattle.answers.specs.Verdict.{refusalAt}
 use Rattle.answers.specs.declared.Refusal.{Refusal}
 use Rattle.bit_rules.specs.Digits.{bin}
-use Rattle.bit_rules.specs.Source.{Source, Out, got, stopped, stop, takeBit}
+use Rattle.bit_rules.specs.Source.{Source, Stop, Out, got, stopped, stop, takeBit}
 use Rattle.bit_rules.specs.Reader.{Reader}
-use Rattle.bit_rules.specs.declared.Stop.{Stop}
 use Rattle.bit_rules.specs.Number.{takeNumber}
 use Rattle.bit_rules.specs.Table.{Table}
 use Rattle.bit_rules.specs.Read.{codeFrom, takeCode}

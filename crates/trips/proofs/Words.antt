@@ -10,8 +10,7 @@ use lib.ListN.{length, getD, drop}
 use lib.Seq.{getD-drop}
 use borrow.Author.Tests.{ltb-true, ltb-false, lt-ltb, le-ltb}
 use Rattle.bit_rules.specs.Digits.{bin, digits}
-use Rattle.bit_rules.specs.Source.{Source, Out, got, stopped, stop, takeBit}
-use Rattle.bit_rules.specs.declared.Stop.{Stop}
+use Rattle.bit_rules.specs.Source.{Source, Stop, Out, got, stopped, stop, takeBit}
 use Rattle.bit_rules.specs.Reader.{andThen, done}
 use Rattle.bit_rules.specs.Gives.{Gives}
 use Rattle.bit_rules.proofs.Took.{Took, took}

@@ -33,7 +33,7 @@ returns c = at-asked-stopped (c .before .before .before .before .before .loop .i
 opened : (c : tie.After-asked2 Inv-loop μ-loop)
     → let at-loop = c .before .before .before .before in
     let a = at-loop .before .before .before .before .args in
-    At (a .«data» .now) (table (a .counts .now) (a .codes .now)) (a .left) (a .values .now) (at-loop .loop .destination) (openOf (a .first)) (some (taskOf (c .asked2 .given .0 .0))) (a .c) (c .asked2 .given .0 .1 .0) (at-loop .loop .i)
+    At (a .«data» .now) (table (a .counts .now) (a .codes .now)) (a .left) (a .values .now) (at-loop .loop .destination) (openOf (a .first)) (some (taskOf (c .asked2 .given .0 .1 .0))) (a .c) (c .asked2 .given .0 .0) (at-loop .loop .i)
 unfolding askedOf
 opened c = at-asked (c .before .before .before .before .loop .inv) (c .before .before .before .loop-test .taken) (sym (c .before .before .task-at .ensures) ∙ ap (askedOf _) (c .asked2 .given .1))
 

@@ -61,7 +61,7 @@ same-length-2 c =
     at-loop .loop .inv .2 .long l ∙ sym l
 
 same-length-3 : tie.Need-same-length-3 Inv-loop μ-loop
-same-length-3 c = let l = c .before .before .before .before .pre .1 .0 in c .before .before .loop .inv .2 .long l ∙ sym l
+same-length-3 c = let l = c .before .before .before .pre .1 .0 in c .before .loop .inv .2 .long l ∙ sym l
 
 slice-set-from-destination : tie.Need-slice-set-from-destination Inv-loop μ-loop
 slice-set-from-destination c =
@@ -104,7 +104,7 @@ loop-again-2 c =
     )
 
 returns-3 : tie.Need-returns-3 Inv-loop μ-loop
-returns-3 c = rw (c .no-place .ensures) (carries-past (c .before .before .loop .inv .2) (c .before .loop-test .left))
+returns-3 c = carries-past (c .before .loop .inv .2) (c .loop-test .left)
 
 pub walk-spec : {M : Type 1} → statement M
 walk-spec =
@@ -137,6 +137,5 @@ walk-spec =
     (λ c. search needs)
     (λ c. search needs)
     loop-again-2
-    (λ c κs. search needs)
     same-length-3
     returns-3)

@@ -10,10 +10,10 @@ returns : tie.Need-returns
 returns c = ends-none (c .enum-told .given .1)
 
 returns-2 : tie.Need-returns-2
-returns-2 c = rw (c .no-place .ensures) (ends-walk (c .before .before .before .before .task .given .1) (ap taskOf (c .before .enum-told2 .given .1)))
+returns-2 c = ends-walk (c .before .before .before .task .given .1) (ap taskOf (c .enum-told2 .given .1))
 
 returns-3 : tie.Need-returns-3
-returns-3 c = rw (c .no-place2 .ensures) (ends-walk (c .before .before .before .before .task .given .1) (ap taskOf (c .before .enum-told3 .given .1)))
+returns-3 c = ends-walk (c .before .before .before .task .given .1) (ap taskOf (c .enum-told3 .given .1))
 
 returns-4 : tie.Need-returns-4
 returns-4 c = ends-run (c .before .before .before .before .task .given .1) (c .before .enum-told4 .given .1) (c .over-job .ensures)
@@ -25,9 +25,7 @@ block-end-spec =
     (λ c. search needs)
     (λ c. search needs)
     (λ c. search needs)
-    (λ c κs. search needs)
     (λ c. search needs)
-    (λ c κs. search needs)
     (λ c. search needs)
     (λ c κs. search needs)
     returns

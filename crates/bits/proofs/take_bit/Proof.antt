@@ -14,7 +14,7 @@ returns c = ap (takenOf _) (c .top .ensures) ∙ taking.held _ _ (c .before .if1
 
 returns-2 : tie.Need-returns-2
 unfolding takenOf
-returns-2 c = taking.at-end _ _ (c .before .if1 .left) (c .if2 .taken)
+returns-2 c = ap (takenOf _) (c .none .ensures) ∙ taking.at-end _ _ (c .before .before .if1 .left) (c .before .if2 .taken)
 
 returns-3 : tie.Need-returns-3
 returns-3 c =
@@ -26,14 +26,15 @@ returns-3 c =
 returns-4 : tie.Need-returns-4
 unfolding takenOf
 returns-4 c =
-    let b = c .before .before .before in
-    taking.ff-end _ _ (b .before .if1 .left) (b .if2 .left) (c .before .if3 .left) (c .if4 .taken)
+    let b = c .before .before .before .before in
+    ap (takenOf _) (c .none2 .ensures) ∙ taking.ff-end _ _ (b .before .if1 .left) (b .if2 .left) (c .before .before .if3 .left) (c .before .if4 .taken)
 
 returns-5 : tie.Need-returns-5
 unfolding takenOf
 returns-5 c =
-    let b = c .before .before .before .before .before in
-    taking.ff-marker _ _ (b .before .if1 .left) (b .if2 .left) (c .before .before .before .if3 .left) (c .before .before .if4 .left) (c .if5 .taken)
+    let b = c .before .before .before .before .before .before in
+    ap (takenOf _) (c .none3 .ensures)
+    ∙ taking.ff-marker _ _ (b .before .if1 .left) (b .if2 .left) (c .before .before .before .before .if3 .left) (c .before .before .before .if4 .left) (c .before .if5 .taken)
 
 returns-6 : tie.Need-returns-6
 returns-6 c =
@@ -48,6 +49,7 @@ take-bit-spec =
     (λ c. search needs)
     (λ c κs. search needs)
     returns
+    (λ c κs. search needs)
     returns-2
     (λ c. search needs)
     (λ c. search needs)
@@ -55,9 +57,11 @@ take-bit-spec =
     returns-3
     (λ c. search needs)
     (λ c. search needs)
+    (λ c κs. search needs)
     returns-4
     (λ c. search needs)
     (λ c. search needs)
+    (λ c κs. search needs)
     returns-5
     (λ c. search needs)
     (λ c κs. search needs)

@@ -44,13 +44,13 @@ returns c =
     let at-bit = c .before .before .before in
     here-stopped (at-bit .before .before .loop .inv) (at-bit .before .loop-test .taken) (sym (at-bit .bit-at .ensures) ∙ ap (takenOf _) (c .before .t2 .given .1))
 
-add-t20 : tie.Need-add-t20 Inv-loop μ-loop
-add-t20 c =
+add-t21 : tie.Need-add-t21 Inv-loop μ-loop
+add-t21 c =
     let b = c .before .before .before .before .before .before .before .before in
     omega (arith, here-room (b .loop .inv) (c .before .before .before .before .before .before .before .loop-test .taken) (took (c .before .before .before .before)) (rw (c .before .wide .ensures .0) at (c .if1 .taken)))
 
-shared-slice-read-t22 : tie.Need-shared-slice-read-t22 Inv-loop μ-loop
-shared-slice-read-t22 c =
+shared-slice-read-t23 : tie.Need-shared-slice-read-t23 Inv-loop μ-loop
+shared-slice-read-t23 c =
     let b = c .before .before .before .before .before .before .before .before .before in
     here-room (b .loop .inv) (c .before .before .before .before .before .before .before .before .loop-test .taken) (took (c .before .before .before .before .before)) (rw (c .before .before .wide .ensures .0) at (c .before .if1 .taken))
 
@@ -85,8 +85,8 @@ take-code-spec =
     returns
     (λ c. search needs)
     (λ c κs. search needs)
-    add-t20
-    shared-slice-read-t22
+    add-t21
+    shared-slice-read-t23
     returns-2
     (λ c. search needs)
     (λ c. search needs)
