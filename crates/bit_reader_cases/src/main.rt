@@ -64,8 +64,8 @@ fn show(data: &[u8], count: usize) {
                 say_bit(bit, next.last);
                 c = next;
             }
-            Taken::Stopped(number, end) => {
-                return say_stop(data, c, number as u64, end.last);
+            Taken::Stopped(number, stop) => {
+                return say_stop(data, c, number as u64, stop.last);
             }
         }
         i += 1;

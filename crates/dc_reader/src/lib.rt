@@ -45,10 +45,10 @@ fn read_dc_blocks(data: &[u8], values: &[i32], destination: &mut [i32]) -> Block
                 destination[i] = new_dc(values[i], b);
                 c = next;
             }
-            Taken::Stopped(number, end) => return Blocks::Refused(Refusal {
+            Taken::Stopped(number, stop) => return Blocks::Refused(Refusal {
                 number,
                 place: i,
-                second: end.last,
+                second: stop.last,
             }),
         }
         i += 1;

@@ -38,7 +38,7 @@ pub record WhichByte (reads : List ℕ → Verdict ℤ) : Type 0 where
 
 -- ---- the law at both ends of its ranges, which it would not give if it said less
 
--- D11: 13 and 17 of some data
+-- D11: data that are refused with the one number or the other
 abbrev pub Either : (List ℕ → Verdict ℤ) → List ℕ → ℕ → ℕ → ℕ → ℕ → Type 0
 Either reads bytes n m p q = Refuses reads bytes n p q ⊎ Refuses reads bytes m p q
 

@@ -38,17 +38,18 @@ module _ (bytes : List ℕ) (k : ℕ) (C E : Type 0) where
   give : {A : Type 0} (a : A) → L (λ s. got a s)
   give a = done-law bytes k C E a
 
+  code-step : (n : ℕ) (counts values : List ℕ) (over : ℕ) → ((b : Bool) → L (codeFrom counts (drop n values) (2 * over + bin b - n))) → F (codeFrom (n ∷ counts) values over)
+  unfolding codeFrom
+  code-step n counts values over rest = then-first bytes k C E bit-first λ b. if-law bytes k C E (ltb (2 * over + bin b) n) (give _) (rest b)
+
   code-law : (counts values : List ℕ) (over : ℕ) → L (codeFrom counts values over)
   unfolding codeFrom
   code-law [] values over = fail-law bytes k C E 14 (omega arith)
-  code-law (n ∷ counts) values over =
-      also bytes k C E (then-first bytes k C E bit-first λ b. if-law bytes k C E (ltb (2 * over + bin b) n) (give _) (code-law counts (drop n values) (2 * over + bin b - n)))
+  code-law (n ∷ counts) values over = also bytes k C E (code-step n counts values over λ b. code-law counts (drop n values) (2 * over + bin b - n))
 
   code-first : (counts values : List ℕ) (over : ℕ) → 0 < length counts → F (codeFrom counts values over)
-  unfolding codeFrom
   code-first [] values over h = absurd (omega arith)
-  code-first (n ∷ counts) values over h =
-      then-first bytes k C E bit-first λ b. if-law bytes k C E (ltb (2 * over + bin b) n) (give _) (code-law counts (drop n values) (2 * over + bin b - n))
+  code-first (n ∷ counts) values over h = code-step n counts values over λ b. code-law counts (drop n values) (2 * over + bin b - n)
 
   number-law : (n v : ℕ) → L (takeNumber n v)
   unfolding takeNumber
@@ -157,17 +158,20 @@ module _ (bytes : List ℕ) (k : ℕ) (C E : Type 0) where
     both-in block next (stopped x) (stopped y) (inl h) past g = inl (ap (λ (z : Stop). refusalAt (z .number) block (z .offset)) (h .0), h .1)
     both-in block next o o′ (inr h) past g = inr (λ t. past-in block next o (h .0 t) past, λ e. (block, ap (inBlock block next) (h .1 e)))
 
+    -- one block, and what is known of those behind it
+    more-blocks : (block : ℕ) (o : A) (b : B) (bs : List B) (s u : Source) → Outs bytes k C E (one o b bs s) (one o b bs u)
+        → ((a : List ℤ × A) (v w : Source) → Alike bytes k C E v w → v .last < v .seen → Planes (blocksFrom one (suc block) (a .1) bs v) (blocksFrom one (suc block) (a .1) bs w))
+        → Planes (blocksFrom one block o (b ∷ bs) s) (blocksFrom one block o (b ∷ bs) u)
+    more-blocks block o b bs s u h on =
+        both-in block _ (one o b bs s) (one o b bs u) h
+        (λ a v l. onto-past (a .0) (blocksFrom one (suc block) (a .1) bs v) (past-blocks (suc block) (a .1) bs v l))
+        λ a v w l m. onto-both (a .0) _ _ (on a v w l m)
+
     both-blocks : (block : ℕ) (o : A) (bs : List B) (s u : Source) → Alike bytes k C E s u → s .last < s .seen → Planes (blocksFrom one block o bs s) (blocksFrom one block o bs u)
     both-blocks block o [] s u h t = inl tt
-    both-blocks block o (b ∷ bs) s u h t =
-        both-in block _ (one o b bs s) (one o b bs u) (laws o b bs .both s u h t)
-        (λ a v l. onto-past (a .0) (blocksFrom one (suc block) (a .1) bs v) (past-blocks (suc block) (a .1) bs v l))
-        λ a v w l m. onto-both (a .0) _ _ (both-blocks (suc block) (a .1) bs v w l m)
+    both-blocks block o (b ∷ bs) s u h t = more-blocks block o b bs s u (laws o b bs .both s u h t) λ a v w l m. both-blocks (suc block) (a .1) bs v w l m
 
     -- the first block asks for a bit before anything else
     pub first-blocks : (block : ℕ) (o : A) (b : B) (bs : List B) (s u : Source) → F (one o b bs) → Alike bytes k C E s u
         → Planes (blocksFrom one block o (b ∷ bs) s) (blocksFrom one block o (b ∷ bs) u)
-    first-blocks block o b bs s u f h =
-        both-in block _ (one o b bs s) (one o b bs u) (f .both s u h)
-        (λ a v l. onto-past (a .0) (blocksFrom one (suc block) (a .1) bs v) (past-blocks (suc block) (a .1) bs v l))
-        λ a v w l m. onto-both (a .0) _ _ (both-blocks (suc block) (a .1) bs v w l m)
+    first-blocks block o b bs s u f h = more-blocks block o b bs s u (f .both s u h) λ a v w l m. both-blocks (suc block) (a .1) bs v w l m
