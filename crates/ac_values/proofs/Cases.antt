@@ -2,7 +2,7 @@
 use mathlib.Core.Path.{_≡_, refl}
 use mathlib.Core.Bool.{true}
 use mathlib.Core.List.{[], _∷_}
-use lib.IntN.{pos, negsuc}
+use lib.IntN.{negsuc}
 use Rattle.bit_rules.specs.Source.{source, got, stopped, stop}
 use Rattle.bits.specs.Code.{highs, sourceOf}
 use Rattle.ac_values.specs.declared.Fixed.the-variants.{Now, Stopped}

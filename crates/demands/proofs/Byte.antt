@@ -8,7 +8,7 @@ use Prim.Native.Nat.{ℕ, zero, suc, _+_, _-_, _*_, _≤_, _<_}
 use native.Mathlib.Omega.{arith}
 use borrow.Author.Tests.{eqb-true, eqb-false, ne-eqb}
 use lib.Dec.{eqb, leb}
-use lib.IntN.{ℤ, pos}
+use lib.IntN.{ℤ}
 use lib.ListN.{length, getD, take, drop, take-append-drop}
 use lib.Seq.{length-take-le, take-length}
 use Rattle.laws.specs.Index.{every}
@@ -16,16 +16,16 @@ use Rattle.laws.specs.declared.Found.{Found}
 use Rattle.laws.specs.declared.Found.the-variants.{At, Nothing}
 use Rattle.answers.specs.Verdict.{Verdict, given, refused, refusalAt, refusal, need, unless}
 use Rattle.answers.specs.declared.Refusal.{Refusal}
-use Rattle.answers.proofs.Given.{refused-given, need-given, unless-given}
+use Rattle.answers.proofs.Given.{refused-given, need-given}
 use Rattle.levels.specs.Level.{firstOutside}
 use Rattle.levels.specs.declared.Part.the-variants.{Dc, Ac}
-use Rattle.bit_rules.specs.Source.{Source, source, start, onlyPadding, stop}
+use Rattle.bit_rules.specs.Source.{start, onlyPadding, stop}
 use Rattle.bit_rules.specs.Table.{Table, goodTable}
 use Rattle.bit_rules.proofs.Tables.{good}
 use Rattle.plane_rules.specs.Plane.{Plane, read, refusing, readable, closed}
 use Rattle.plane_rules.specs.Dc.{dcBlock, dcBlocks, readDc}
 use Rattle.plane_rules.specs.AcRead.{acBlock, cut, acBlocks, readAc}
-use Rattle.trips.proofs.Asked.{tidy, Apart, Facts, Alike, Within, First, also}
+use Rattle.trips.proofs.Asked.{tidy, Alike, Within, First, also}
 use Rattle.trips.proofs.AskedPlanes.{Planes, PastPlane, SamePlane, block-law, block-first, dc-block, first-blocks}
 use Rattle.demands.specs.Byte.{size, Refuses, WhichByte, Either, ByteShown, TellsWhichByte}
 

@@ -13,7 +13,7 @@ use lib.ListN.{getD, take, replicate}
 use Rattle.laws.specs.Index.{every}
 use Rattle.laws.proofs.Choices.{cond-left, cond-right}
 use Rattle.answers.specs.Verdict.{Verdict, given}
-use Rattle.plane_rules.specs.Levels.{downward, climb}
+use Rattle.plane_rules.specs.Levels.{downward}
 use Rattle.demands.specs.One.{Rows, stands, row, rows, _then_, Succeeded, Turned, packetRows, boxRows, listRows, dcReadRows, acReadRows, dcWriteRows, acWriteRows, transformRows, previewRows, mergeRows}
 use Rattle.demands.specs.Three.{Both, levelOf}
 use Rattle.demands.specs.Shams.{OneOutcome, OneRefusal, NoSecond, Only, NumbersAre, caseD, AlwaysRefusing, caseE, OnePicture, KeptOnRefusal, PlaneUntouched, FinalAtOnce, DoubledUnread, ShamsRefuted}

@@ -12,14 +12,16 @@ use denote.Triple.Clauses.{AtExit}
 use Rattle.laws.specs.Index.{every, tab, joinTo}
 use Rattle.laws.specs.First.{firstFail, orHere}
 use Rattle.answers.specs.declared.Answer.{Answer}
-use Rattle.answers.specs.Verdict.{Verdict, refused, refusal, answerOf, outcomeOf, leaves, Meets}
+use Rattle.answers.specs.Verdict.{Verdict, refused, refusalAt, answerOf, outcomeOf, leaves, Meets}
 use Rattle.levels.specs.Level.{inLevel, isDc, inside, firstOutside}
 use Rattle.box_rules.specs.Walk.{stepsIn, stepsFrom, begins, walk, ending}
 use Rattle.box_rules.specs.Packets.{packetsIn, packets}
 use Rattle.box_rules.specs.Box.{boxBytes}
 use Rattle.box_rules.specs.Text.{line, lines, header, answer, listing, decIn, dec, listPackets}
+use Rattle.bit_rules.specs.Source.{afterFF, nextByte, takeFrom, takeBit}
 use Rattle.bit_rules.specs.Table.{table, codeCount, kraft, holds, distinct, goodTable}
-use Rattle.plane_rules.specs.Dc.{readDc, writeDc}
+use Rattle.plane_rules.specs.Plane.{closed}
+use Rattle.plane_rules.specs.Dc.{dcBlocks, readDc, writeDc}
 use Rattle.plane_rules.specs.AcRead.{readAc}
 use Rattle.plane_rules.specs.AcWrite.{writeAc}
 use Rattle.transform_rules.specs.Samples.{blockSamples}
@@ -59,15 +61,15 @@ use Rattle.reader_c.proofs.xt_merge as merge-call
 use Rattle.reader_c.proofs.xt_merge.Kinds as merge-kinds
 use Rattle.reader_c.proofs.xt_merge.Reads as merge-reads
 
--- a refusal: the number, the place, 0 as second place, and zeros throughout
-pub record Refuses {A : Type 0} (zero : A) (number place : ℕ) (before after : List A) (r p q : ℕ) : Type 0 where
+-- a refusal: the number, the place, the second place, and zeros throughout
+pub record Refuses {A : Type 0} (zero : A) (number place second : ℕ) (before after : List A) (r p q : ℕ) : Type 0 where
   pub numbered : r ≡ number
   pub placed : p ≡ place
-  pub seconded : q ≡ 0
+  pub seconded : q ≡ second
   pub cleared : after ≡ replicate (length before) zero
 
-refuses : {A : Type 0} {zero : A} {number place : ℕ} {before after : List A} {r p q : ℕ} {verdict : Verdict A} → Meets zero verdict before after (record { number = r; place = p; second = q })
-    → verdict ≡ refused (refusal number place) → Refuses zero number place before after r p q
+refuses : {A : Type 0} {zero : A} {number place second : ℕ} {before after : List A} {r p q : ℕ} {verdict : Verdict A} → Meets zero verdict before after (record { number = r; place = p; second = q })
+    → verdict ≡ refused (refusalAt number place second) → Refuses zero number place second before after r p q
 refuses {zero = zero} {before = before} m e =
     let told = m .answered ∙ ap (λ v. answerOf (outcomeOf v)) e in
     record {
@@ -92,7 +94,7 @@ module _ (κs : Lfts 4) (a : ArgsD box-call.signature κs) (r : ResD box-call.si
 
   -- an empty file does not begin FF D8: 1, place 0
   pub box-refuses : (now (a .0) ≡ [])
-      → Refuses 0 1 0 (now (a .1 .1 .1 .0)) (now (s .1 .1 .1 .0)) r (now (s .1 .1 .1 .1 .0)) (now (s .1 .1 .1 .1 .1 .0))
+      → Refuses 0 1 0 0 (now (a .1 .1 .1 .0)) (now (s .1 .1 .1 .0)) r (now (s .1 .1 .1 .1 .0)) (now (s .1 .1 .1 .1 .1 .0))
   unfolding boxBytes stepsIn stepsFrom begins walk ending
   box-refuses e0 = refuses box-meets (rw (e0))
 
@@ -105,7 +107,7 @@ module _ (κs : Lfts 4) (a : ArgsD list-call.signature κs) (r : ResD list-call.
   -- the listing of an empty file has 38 bytes: 9 where there is no room
   pub list-refuses : (now (a .0) ≡ [])
       → (now (a .1 .0) ≡ [])
-      → Refuses 0 9 38 (now (a .1 .0)) (now (s .1 .0)) r (now (s .1 .1 .0)) (now (s .1 .1 .1 .0))
+      → Refuses 0 9 38 0 (now (a .1 .0)) (now (s .1 .0)) r (now (s .1 .1 .0)) (now (s .1 .1 .1 .0))
   unfolding listPackets listing line lines header answer decIn dec packetsIn packets stepsIn stepsFrom begins walk ending
   list-refuses e0 e1 = refuses list-meets (rw (e0, e1))
 
@@ -120,9 +122,19 @@ module _ (κs : Lfts 5) (a : ArgsD readdc-call.signature κs) (r : ResD readdc-c
       → (a .1 .0 ≡ 1)
       → (now (a .1 .1 .1 .0) ≡ pos 0 ∷ [])
       → (now (a .1 .1 .1 .1 .0) ≡ [])
-      → Refuses (pos 0) 9 1 (now (a .1 .1 .1 .1 .0)) (now (s .1 .1 .1 .1 .0)) r (now (s .1 .1 .1 .1 .1 .0)) (now (s .1 .1 .1 .1 .1 .1 .0))
+      → Refuses (pos 0) 9 1 0 (now (a .1 .1 .1 .1 .0)) (now (s .1 .1 .1 .1 .0)) r (now (s .1 .1 .1 .1 .1 .0)) (now (s .1 .1 .1 .1 .1 .1 .0))
   unfolding readDc every firstFail orHere inLevel isDc inside firstOutside
   read-dc-refuses e0 e1 e2 e3 = refuses read-dc-meets (rw (e0, e1, e2, e3))
+
+  -- one block and FF alone: 12, block 0, and byte 1 is missing
+  pub read-dc-stops : (a .0 ≡ 1)
+      → (a .1 .0 ≡ 1)
+      → (now (a .1 .1 .0) ≡ 255 ∷ [])
+      → (now (a .1 .1 .1 .0) ≡ pos 0 ∷ [])
+      → (now (a .1 .1 .1 .1 .0) ≡ pos 7 ∷ [])
+      → Refuses (pos 0) 12 0 1 (now (a .1 .1 .1 .1 .0)) (now (s .1 .1 .1 .1 .0)) r (now (s .1 .1 .1 .1 .1 .0)) (now (s .1 .1 .1 .1 .1 .1 .0))
+  unfolding readDc every firstFail orHere inLevel isDc inside firstOutside afterFF nextByte takeFrom takeBit closed dcBlocks
+  read-dc-stops e0 e1 e2 e3 e4 = refuses read-dc-meets (rw (e0, e1, e2, e3, e4))
 
 -- xt_write_dc_plane
 module _ (κs : Lfts 4) (a : ArgsD writedc-call.signature κs) (r : ResD writedc-call.signature κs) (s : AtExit (endedOf 4 writedc-kinds.ps writedc-kinds.r) κs) (promise : writedc-reads.Learnt κs a r s) where
@@ -134,7 +146,7 @@ module _ (κs : Lfts 4) (a : ArgsD writedc-call.signature κs) (r : ResD writedc
   pub write-dc-refuses : (a .0 ≡ 1)
       → (a .1 .0 ≡ 2)
       → (now (a .1 .1 .0) ≡ pos 0 ∷ pos 4096 ∷ [])
-      → Refuses 0 11 1 (now (a .1 .1 .1 .0)) (now (s .1 .1 .1 .0)) r (now (s .1 .1 .1 .1 .0)) (now (s .1 .1 .1 .1 .1 .0))
+      → Refuses 0 11 1 0 (now (a .1 .1 .1 .0)) (now (s .1 .1 .1 .0)) r (now (s .1 .1 .1 .1 .0)) (now (s .1 .1 .1 .1 .1 .0))
   unfolding writeDc every firstFail orHere inLevel isDc inside firstOutside
   write-dc-refuses e0 e1 e2 = refuses write-dc-meets (rw (e0, e1, e2))
 
@@ -150,7 +162,7 @@ module _ (κs : Lfts 5) (a : ArgsD transform-call.signature κs) (r : ResD trans
       → (now (a .1 .1 .0) ≡ replicate 64 (pos 0))
       → (now (a .1 .1 .1 .0) ≡ replicate 64 255)
       → (now (a .1 .1 .1 .1 .0) ≡ [])
-      → Refuses (pos 0) 9 64 (now (a .1 .1 .1 .1 .0)) (now (s .1 .1 .1 .1 .0)) r (now (s .1 .1 .1 .1 .1 .0)) (now (s .1 .1 .1 .1 .1 .1 .0))
+      → Refuses (pos 0) 9 64 0 (now (a .1 .1 .1 .1 .0)) (now (s .1 .1 .1 .1 .0)) r (now (s .1 .1 .1 .1 .1 .0)) (now (s .1 .1 .1 .1 .1 .1 .0))
   unfolding inverseTransform firstBadQuantiser isQuantiser picture blockSamples tab joinTo every firstFail orHere inLevel isDc inside firstOutside
   transform-refuses e0 e1 e2 e3 e4 = refuses transform-meets (rw (e0, e1, e2, e3, e4))
 
@@ -164,7 +176,7 @@ module _ (κs : Lfts 4) (a : ArgsD preview-call.signature κs) (r : ResD preview
   pub preview-refuses : (a .0 ≡ 4)
       → (now (a .1 .0) ≡ replicate 64 255)
       → (now (a .1 .1 .0) ≡ [])
-      → Refuses 0 9 64 (now (a .1 .1 .0)) (now (s .1 .1 .0)) r (now (s .1 .1 .1 .0)) (now (s .1 .1 .1 .1 .0))
+      → Refuses 0 9 64 0 (now (a .1 .1 .0)) (now (s .1 .1 .0)) r (now (s .1 .1 .1 .0)) (now (s .1 .1 .1 .1 .0))
   unfolding previewOwes firstBadQuantiser isQuantiser owedBlock tab every firstFail orHere
   preview-refuses e0 e1 e2 = refuses preview-meets (rw (e0, e1, e2))
 
@@ -181,7 +193,7 @@ module _ (κs : Lfts 7) (a : ArgsD readac-call.signature κs) (r : ResD readac-c
       → (now (a .1 .1 .1 .0) ≡ codesOfT)
       → (now (a .1 .1 .1 .1 .1 .0) ≡ replicate 63 (pos 0))
       → (now (a .1 .1 .1 .1 .1 .1 .0) ≡ [])
-      → Refuses (pos 0) 9 63 (now (a .1 .1 .1 .1 .1 .1 .0)) (now (s .1 .1 .1 .1 .1 .1 .0)) r (now (s .1 .1 .1 .1 .1 .1 .1 .0)) (now (s .1 .1 .1 .1 .1 .1 .1 .1 .0))
+      → Refuses (pos 0) 9 63 0 (now (a .1 .1 .1 .1 .1 .1 .0)) (now (s .1 .1 .1 .1 .1 .1 .0)) r (now (s .1 .1 .1 .1 .1 .1 .1 .0)) (now (s .1 .1 .1 .1 .1 .1 .1 .1 .0))
   unfolding countsOfT codesOfT readAc codeCount kraft holds distinct goodTable every firstFail orHere inLevel isDc inside firstOutside
   read-ac-refuses e0 e1 e2 e3 e4 e5 = refuses read-ac-meets (rw (e0, e1, e2, e3, e4, e5))
 
@@ -197,7 +209,7 @@ module _ (κs : Lfts 6) (a : ArgsD writeac-call.signature κs) (r : ResD writeac
       → (now (a .1 .1 .0) ≡ countsOfT)
       → (now (a .1 .1 .1 .0) ≡ codesOfT)
       → (now (a .1 .1 .1 .1 .0) ≡ replicate 62 (pos 0) ++ (pos 4096 ∷ []))
-      → Refuses 0 11 62 (now (a .1 .1 .1 .1 .1 .0)) (now (s .1 .1 .1 .1 .1 .0)) r (now (s .1 .1 .1 .1 .1 .1 .0)) (now (s .1 .1 .1 .1 .1 .1 .1 .0))
+      → Refuses 0 11 62 0 (now (a .1 .1 .1 .1 .1 .0)) (now (s .1 .1 .1 .1 .1 .0)) r (now (s .1 .1 .1 .1 .1 .1 .0)) (now (s .1 .1 .1 .1 .1 .1 .1 .0))
   unfolding countsOfT codesOfT writeAc codeCount kraft holds distinct goodTable every firstFail orHere inLevel isDc inside firstOutside
   write-ac-refuses e0 e1 e2 e3 e4 = refuses write-ac-meets (rw (e0, e1, e2, e3, e4))
 
@@ -222,6 +234,6 @@ module _ (κs : Lfts 7) (a : ArgsD merge-call.signature κs) (r : ResD merge-cal
       → (now (a .1 .1 .1 .1 .1 .1 .1 .1 .1 .1 .1 .0) ≡ [])
       → (now (a .1 .1 .1 .1 .1 .1 .1 .1 .1 .1 .1 .1 .0) ≡ 0 ∷ 0 ∷ 0 ∷ replicate 253 512)
       → (now (a .1 .1 .1 .1 .1 .1 .1 .1 .1 .1 .1 .1 .1 .0) ≡ [])
-      → Refuses 0 11 3 (now (a .1 .1 .1 .1 .1 .1 .1 .1 .1 .1 .1 .1 .1 .1 .0)) (now (s .1 .1 .1 .1 .1 .1 .1 .1 .1 .1 .1 .1 .1 .1 .0)) r (now (s .1 .1 .1 .1 .1 .1 .1 .1 .1 .1 .1 .1 .1 .1 .1 .0)) (now (s .1 .1 .1 .1 .1 .1 .1 .1 .1 .1 .1 .1 .1 .1 .1 .1 .0))
+      → Refuses 0 11 3 0 (now (a .1 .1 .1 .1 .1 .1 .1 .1 .1 .1 .1 .1 .1 .1 .0)) (now (s .1 .1 .1 .1 .1 .1 .1 .1 .1 .1 .1 .1 .1 .1 .0)) r (now (s .1 .1 .1 .1 .1 .1 .1 .1 .1 .1 .1 .1 .1 .1 .1 .0)) (now (s .1 .1 .1 .1 .1 .1 .1 .1 .1 .1 .1 .1 .1 .1 .1 .1 .0))
   unfolding mergeCall settingNumber known matrixCount settingOf colourOf curveOf matrixOf residualOf weightsOf merge mergeTests every firstFail orHere inRanges plain srgbAllowed residualCount lengthsRight entryRight entries
   merge-refuses e0 e1 e2 e3 e4 e5 e6 e7 e8 e9 e10 e11 e12 e13 = refuses merge-meets (rw (e0, e1, e2, e3, e4, e5, e6, e7, e8, e9, e10, e11, e12, e13))

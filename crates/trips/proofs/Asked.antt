@@ -10,7 +10,7 @@ use lib.ListN.{length, getD, drop, length-drop}
 use lib.Seq.{getD-drop, drop-drop}
 use borrow.Author.Tests.{eqb-true, eqb-false}
 use Rattle.laws.proofs.Choices.{by-test, true-false}
-use Rattle.bit_rules.specs.Digits.{odd, digits}
+use Rattle.bit_rules.specs.Digits.{digits}
 use Rattle.bit_rules.specs.Source.{Source, Stop, source, Out, got, stopped, stop, opened, afterFF, nextByte, takeFrom, takeBit}
 use Rattle.bit_rules.specs.Reader.{Reader, andThen, _>>=_, done, fail}
 

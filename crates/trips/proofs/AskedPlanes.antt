@@ -1,16 +1,15 @@
 -- The readers of planes run twice over data that are the same up to an offset: each law is built as its reader is defined. Assumes nothing.
-use mathlib.Core.Path.{_≡_, refl, sym, ap, _∙_}
+use mathlib.Core.Path.{_≡_, ap}
 use mathlib.Core.Logic.{_⊎_, inl, inr}
 use mathlib.Core.Bool.{Bool}
-use mathlib.Core.List.{List, [], _∷_, _++_}
+use mathlib.Core.List.{List, [], _∷_}
 use mathlib.Core.Option.{Option, none, some}
 use Prim.Native.Nat.{ℕ, zero, suc, _+_, _-_, _*_, _/_, _%_, _^_, _≤_, _<_}
 use native.Mathlib.Omega.{arith}
 use lib.Dec.{ltb, leb}
 use lib.IntN.{ℤ, pos, negsuc}
-use lib.ListN.{length, getD, drop}
+use lib.ListN.{length, drop}
 use Rattle.answers.specs.Verdict.{refusalAt}
-use Rattle.answers.specs.declared.Refusal.{Refusal}
 use Rattle.bit_rules.specs.Digits.{bin}
 use Rattle.bit_rules.specs.Source.{Source, Stop, Out, got, stopped, stop, takeBit}
 use Rattle.bit_rules.specs.Reader.{Reader}
