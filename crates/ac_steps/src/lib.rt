@@ -52,7 +52,7 @@ fn walk(
         } else {
             let f = ac_values::correct(data, v, cursor);
             match f {
-                Fixed::Stopped(n, stop) => return Step::Out(Block::Stopped(n, stop)),
+                Fixed::Stopped(number, stop) => return Step::Out(Block::Stopped(number, stop)),
                 Fixed::Now(w, next) => {
                     destination[i] = w;
                     cursor = next;
@@ -87,7 +87,7 @@ fn rest(
         } else {
             let f = ac_values::correct(data, v, cursor);
             match f {
-                Fixed::Stopped(n, stop) => return Step::Out(Block::Stopped(n, stop)),
+                Fixed::Stopped(number, stop) => return Step::Out(Block::Stopped(number, stop)),
                 Fixed::Now(w, next) => {
                     destination[i] = w;
                     cursor = next;

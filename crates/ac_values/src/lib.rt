@@ -22,7 +22,7 @@ pub fn correct(data: &[u8], value: i32, c: Cursor) -> Fixed
     let t = bits::reader::bit_at(data, c);
     match t {
         Taken::Bit(b, next) => Fixed::Now(ac_tasks::corrected(value, b), next),
-        Taken::Stopped(n, stop) => Fixed::Stopped(n, stop),
+        Taken::Stopped(number, stop) => Fixed::Stopped(number, stop),
     }
 }
 

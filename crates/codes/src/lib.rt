@@ -117,7 +117,7 @@ pub fn take_code(counts: &[u8], values: &[u8], data: &[u8], c: Cursor) -> Coded
                 over = 2 * over + (b as usize);
                 cursor = next;
             }
-            Taken::Stopped(n, stop) => return Coded::Stopped(n, stop),
+            Taken::Stopped(number, stop) => return Coded::Stopped(number, stop),
         }
         let n = wide(counts[l]);
         if over < n {

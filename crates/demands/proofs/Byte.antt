@@ -2,18 +2,19 @@
 use mathlib.Core.Path.{_≡_, refl, sym, ap, subst, _∙_}
 use mathlib.Core.Logic.{_⊎_, inl, inr}
 use mathlib.Core.Bool.{Bool, true, false, cond}
-use mathlib.Core.List.{List, [], _∷_, _++_, append-nil}
+use mathlib.Core.List.{List, [], _∷_, _++_, append-nil, append-assoc}
 use mathlib.Core.Option.{none}
 use Prim.Native.Nat.{ℕ, zero, suc, _+_, _-_, _*_, _≤_, _<_}
 use native.Mathlib.Omega.{arith}
-use borrow.Author.Tests.{eqb-true, eqb-false, ne-eqb}
+use borrow.Author.Tests.{eqb-true, eqb-false, eq-eqb, ne-eqb}
 use lib.Dec.{eqb, leb}
 use lib.IntN.{ℤ}
 use lib.ListN.{length, getD, take, drop, take-append-drop}
-use lib.Seq.{length-take-le, take-length}
+use lib.Seq.{length-take-le, take-length, take-suc, drop-cons}
 use Rattle.laws.specs.Index.{every}
 use Rattle.laws.specs.declared.Found.{Found}
 use Rattle.laws.specs.declared.Found.the-variants.{At, Nothing}
+use Rattle.laws.proofs.Choices.{either}
 use Rattle.answers.specs.Verdict.{Verdict, given, refused, refusalAt, refusal, need, unless}
 use Rattle.answers.specs.declared.Refusal.{Refusal}
 use Rattle.answers.proofs.Given.{refused-given, need-given}
@@ -25,13 +26,13 @@ use Rattle.bit_rules.proofs.Tables.{good}
 use Rattle.plane_rules.specs.Plane.{Plane, read, refusing, readable, closed}
 use Rattle.plane_rules.specs.Dc.{dcBlock, dcBlocks, readDc}
 use Rattle.plane_rules.specs.AcRead.{acBlock, cut, acBlocks, readAc}
-use Rattle.trips.proofs.Asked.{tidy, Alike, Within, First, also}
+use Rattle.trips.proofs.Asked.{tidy, Seam, even, marked, unsaid, Alike, Within, First, also}
 use Rattle.trips.proofs.AskedPlanes.{Planes, PastPlane, SamePlane, block-law, block-first, dc-block, first-blocks}
 use Rattle.demands.specs.Byte.{size, Refuses, WhichByte, Either, ByteShown, TellsWhichByte}
 
 -- ---- planes, over data that are cut and go on otherwise
 
-module _ (bytes : List ℕ) (k : ℕ) (C E : Type 0) (rest′ : List ℕ) (h : k ≤ length bytes) (clean : C → tidy (take k bytes) ≡ true) (ends : E → rest′ ≡ []) where
+module _ (bytes : List ℕ) (k : ℕ) (C E : Type 0) (rest′ : List ℕ) (h : k ≤ length bytes) (seam : Seam C (take k bytes) (drop k bytes) rest′) (ends : E → rest′ ≡ []) where
   both-start : Alike bytes k C E (start bytes) (start (take k bytes ++ rest′))
   both-start = record {
     pending = [];
@@ -44,7 +45,7 @@ module _ (bytes : List ℕ) (k : ℕ) (C E : Type 0) (rest′ : List ℕ) (h : k
     there = refl;
     facts = record {
       upto = omega (arith, length-take-le k bytes h);
-      clean = clean;
+      seam = seam;
       ends = ends;
       held = inl refl;
       whole = take-append-drop k bytes;
@@ -55,7 +56,7 @@ module _ (bytes : List ℕ) (k : ℕ) (C E : Type 0) (rest′ : List ℕ) (h : k
   }
 
 pub record Twice (plane : List ℕ → Plane) : Type 1 where
-  pub both : (bytes : List ℕ) (k : ℕ) (C E : Type 0) (rest′ : List ℕ) → k ≤ length bytes → (C → tidy (take k bytes) ≡ true) → (E → rest′ ≡ [])
+  pub both : (bytes : List ℕ) (k : ℕ) (C E : Type 0) (rest′ : List ℕ) → k ≤ length bytes → Seam C (take k bytes) (drop k bytes) rest′ → (E → rest′ ≡ [])
       → Planes bytes k C E (plane bytes) (plane (take k bytes ++ rest′))
 
 dc-twice : (values : List ℤ) → Twice (λ bytes. dcBlocks 0 values (start bytes))
@@ -151,7 +152,7 @@ module _ (plane : List ℕ → Plane) (tests : Verdict ℤ → Verdict ℤ) (fro
   module _ (bytes : List ℕ) (n p q : ℕ) (h : Halt bytes n p q) where
     -- the same data once more: the refusal stands within them, or the data end early
     whole : Within bytes (length bytes) ⊥ (Unit {0}) (stop n q) ⊎ ((n ≡ 12) × (q ≡ length bytes))
-    whole = go (twice (h .clear) .both bytes (length bytes) ⊥ (Unit {0}) [] (omega arith) (λ c. absurd c) (λ e. refl))
+    whole = go (twice (h .clear) .both bytes (length bytes) ⊥ (Unit {0}) [] (omega arith) (unsaid (λ c. c)) (λ e. refl))
       where
         again : plane (take (length bytes) bytes ++ []) ≡ refusing (refusalAt n p q)
         again = ap plane (append-nil (take (length bytes) bytes) ∙ take-length bytes) ∙ h .halts
@@ -175,7 +176,7 @@ module _ (plane : List ℕ → Plane) (tests : Verdict ℤ → Verdict ℤ) (fro
 
     -- cut in front of the byte
     cut-off : 13 ≤ n → (r : ℕ) × Refuses reads (take q bytes) 12 r q
-    cut-off l = go (twice (h .clear) .both bytes q ⊥ (Unit {0}) [] (let b = within l .below in omega arith) (λ c. absurd c) (λ e. refl))
+    cut-off l = go (twice (h .clear) .both bytes q ⊥ (Unit {0}) [] (let b = within l .below in omega arith) (unsaid (λ c. c)) (λ e. refl))
       where
         go : Planes bytes q ⊥ (Unit {0}) (plane bytes) (plane (take q bytes ++ [])) → (r : ℕ) × Refuses reads (take q bytes) 12 r q
         go (inl s) =
@@ -187,8 +188,8 @@ module _ (plane : List ℕ → Plane) (tests : Verdict ℤ → Verdict ℤ) (fro
             (e .0, h .clear (closed (plane (take q bytes))) ∙ refusing-closed (plane (take q bytes)) _ (ap plane (sym (append-nil (take q bytes))) ∙ e .1))
 
     -- and behind it
-    goes-on : (k : ℕ) (more : List ℕ) → q < k → k ≤ length bytes → tidy (take k bytes) ≡ true → Refuses reads (take k bytes ++ more) n p q
-    goes-on k more l m t = go (twice (h .clear) .both bytes k (Unit {0}) ⊥ more m (λ c. t) (λ e. absurd e))
+    goes-on : (k : ℕ) (more : List ℕ) → q < k → k ≤ length bytes → Seam (Unit {0}) (take k bytes) (drop k bytes) more → Refuses reads (take k bytes ++ more) n p q
+    goes-on k more l m t = go (twice (h .clear) .both bytes k (Unit {0}) ⊥ more m t (λ e. absurd e))
       where
         go : Planes bytes k (Unit {0}) ⊥ (plane bytes) (plane (take k bytes ++ more)) → Refuses reads (take k bytes ++ more) n p q
         go (inl s) =
@@ -198,8 +199,20 @@ module _ (plane : List ℕ → Plane) (tests : Verdict ℤ → Verdict ℤ) (fro
             let b : k ≤ q = subst (PastPlane bytes k (Unit {0}) ⊥) (h .halts) (s .0 tt) in
             absurd (omega arith)
 
-    behind : 14 ≤ n → (more : List ℕ) → Refuses reads (take (q + size (getD bytes q 0)) bytes ++ more) n p q
-    behind l more = go (eqb (getD bytes q 0) 255) refl
+    -- 13: its FF, and the byte behind it
+    behind-two : n ≡ 13 → (more : List ℕ) → Refuses reads (take (q + 2) bytes ++ more) n p q
+    behind-two e more =
+        let m = within (omega arith) .marker e in
+        let v : ℕ = getD bytes (q + 1) 0 in
+        let z : v ≡ suc (v - 1) = omega (arith, m .2) in
+        let two : q + 2 ≡ suc (q + 1) = omega arith in
+        let same : take (q + 2) bytes ++ more ≡ take (q + 1) bytes ++ (v ∷ more) = ap (λ (j : ℕ). take j bytes ++ more) two ∙ (ap (λ (l : List ℕ). l ++ more) (take-suc bytes (q + 1) 0 (m .1)) ∙ append-assoc (take (q + 1) bytes) (v ∷ []) more) in
+        rw same (goes-on (q + 1) (v ∷ more) (omega arith) (let b = m .1 in omega arith)
+        (marked (drop-cons bytes (q + 1) 0 (m .1) ∙ ap (λ (b : ℕ). b ∷ drop (suc (q + 1)) bytes) z) (ap (λ (b : ℕ). b ∷ more) z)))
+
+    -- 14 to 17: the byte, and the 00 of an FF
+    behind-one : 14 ≤ n → (more : List ℕ) → Refuses reads (take (q + size (getD bytes q 0)) bytes ++ more) n p q
+    behind-one l more = go (eqb (getD bytes q 0) 255) refl
       where
         w : Within bytes (length bytes) ⊥ (Unit {0}) (stop n q)
         w = within (omega arith)
@@ -209,10 +222,19 @@ module _ (plane : List ℕ → Plane) (tests : Verdict ℤ → Verdict ℤ) (fro
             let d = w .pair (omega arith) (eqb-true (getD bytes q 0) 255 e) in
             let two : q + 2 ≡ suc (q + 1) = omega arith in
             let none : getD bytes (q + 1) 0 ≡ 255 → ⊥ = λ f. let g = d .1 in omega arith in
-            goes-on (q + 2) more (omega arith) (let b = d .0 in omega arith) (ap (λ (j : ℕ). tidy (take j bytes)) two ∙ tidy-take (q + 1) bytes (d .0) none)
+            goes-on (q + 2) more (omega arith) (let b = d .0 in omega arith) (even (ap (λ (j : ℕ). tidy (take j bytes)) two ∙ tidy-take (q + 1) bytes (d .0) none))
         go false e =
             let one : q + 1 ≡ suc q = omega arith in
-            goes-on (q + 1) more (omega arith) (let b = w .below in omega arith) (ap (λ (j : ℕ). tidy (take j bytes)) one ∙ tidy-take q bytes (w .below) (eqb-false (getD bytes q 0) 255 e))
+            goes-on (q + 1) more (omega arith) (let b = w .below in omega arith) (even (ap (λ (j : ℕ). tidy (take j bytes)) one ∙ tidy-take q bytes (w .below) (eqb-false (getD bytes q 0) 255 e)))
+
+    behind : 13 ≤ n → (more : List ℕ) → Refuses reads (take (q + size (getD bytes q 0)) bytes ++ more) n p q
+    behind l more = go (either (eqb n 13))
+      where
+        go : (eqb n 13 ≡ true) ⊎ (eqb n 13 ≡ false) → Refuses reads (take (q + size (getD bytes q 0)) bytes ++ more) n p q
+        go (inl t) =
+            let e : n ≡ 13 = eqb-true n 13 t in
+            rw (eq-eqb _ _ (within l .marker e .0)) (behind-two e more)
+        go (inr t) = behind-one (let h : n ≡ 13 → ⊥ = eqb-false n 13 t in omega arith) more
 
   which : WhichByte reads
   which = record {
@@ -300,7 +322,7 @@ module _ {reads : List ℕ → Verdict ℤ} (w : WhichByte reads) where
     marker = λ bytes p q e. let m = w .marker bytes p q e in (m .0, m .2);
     carries = λ bytes p q h e. let z : q + 1 - 1 ≡ q = omega arith in either-carries bytes p q h (ap (λ (n : ℕ). getD bytes n 0) z ∙ e);
     asked = either-asked;
-    last = λ bytes p q e. w .last bytes (255 ∷ 255 ∷ []) 14 p q (omega arith) (omega arith) e;
+    last = λ bytes p q e. w .last bytes (255 ∷ 255 ∷ []) 13 p q (omega arith) (omega arith) e;
     lastly = λ bytes p q e. w .last bytes (255 ∷ 255 ∷ []) 17 p q (omega arith) (omega arith) e;
   }
 

@@ -12,7 +12,7 @@ use Rattle.bit_rules.specs.Table.{Table}
 use Rattle.plane_rules.specs.Dc.{readDc}
 use Rattle.plane_rules.specs.AcRead.{readAc}
 
--- D11: a byte, and the 00 with its FF
+-- D11: a byte, and with an FF the byte that was tested behind it
 abbrev pub size : ℕ → ℕ
 size byte = cond (eqb byte 255) 2 1
 
@@ -32,8 +32,8 @@ pub record WhichByte (reads : List ℕ → Verdict ℤ) : Type 0 where
   pub carries : (bytes : List ℕ) (n p q : ℕ) → 13 ≤ n → n ≤ 17 → Refuses reads bytes n p q → 0 < q → getD bytes (q - 1) 0 ≡ 255 → ⊥
   -- it was asked for: data that are cut in front of it end early, and this is the byte that is missing
   pub asked : (bytes : List ℕ) (n p q : ℕ) → 13 ≤ n → n ≤ 17 → Refuses reads bytes n p q → (r : ℕ) × Refuses reads (take q bytes) 12 r q
-  -- and it was the last: 14 to 17 are told alike whatever stands behind it
-  pub last : (bytes more : List ℕ) (n p q : ℕ) → 14 ≤ n → n ≤ 17 → Refuses reads bytes n p q
+  -- and it was the last: data are refused alike whatever stands behind it, and behind the byte that goes with an FF
+  pub last : (bytes more : List ℕ) (n p q : ℕ) → 13 ≤ n → n ≤ 17 → Refuses reads bytes n p q
       → Refuses reads (take (q + size (getD bytes q 0)) bytes ++ more) n p q
 
 -- ---- the law at both ends of its ranges, which it would not give if it said less
@@ -42,14 +42,14 @@ pub record WhichByte (reads : List ℕ → Verdict ℤ) : Type 0 where
 abbrev pub Either : (List ℕ → Verdict ℤ) → List ℕ → ℕ → ℕ → ℕ → ℕ → Type 0
 Either reads bytes n m p q = Refuses reads bytes n p q ⊎ Refuses reads bytes m p q
 
--- D11: cut there, the data end early; with the byte, and its 00, and two bytes FF behind it, they are refused as before
+-- D11: cut there, the data end early; with the byte, and what goes with an FF, and two bytes FF behind it, they are refused as before
 pub record ByteShown (reads : List ℕ → Verdict ℤ) : Type 0 where
   pub missing : (byte p q : ℕ) → Refuses reads (byte ∷ []) 12 p q → q ≡ 1
   pub below : (bytes : List ℕ) (p q : ℕ) → Either reads bytes 13 17 p q → q < length bytes
   pub marker : (bytes : List ℕ) (p q : ℕ) → Refuses reads bytes 13 p q → (getD bytes q 0 ≡ 255) × (getD bytes (q + 1) 0 ≡ 0 → ⊥)
   pub carries : (bytes : List ℕ) (p q : ℕ) → Either reads bytes 13 17 p (q + 1) → getD bytes q 0 ≡ 255 → ⊥
   pub asked : (bytes : List ℕ) (p q : ℕ) → Either reads bytes 13 17 p q → (r : ℕ) × Refuses reads (take q bytes) 12 r q
-  pub last : (bytes : List ℕ) (p q : ℕ) → Refuses reads bytes 14 p q → Refuses reads (take (q + size (getD bytes q 0)) bytes ++ (255 ∷ 255 ∷ [])) 14 p q
+  pub last : (bytes : List ℕ) (p q : ℕ) → Refuses reads bytes 13 p q → Refuses reads (take (q + size (getD bytes q 0)) bytes ++ (255 ∷ 255 ∷ [])) 13 p q
   pub lastly : (bytes : List ℕ) (p q : ℕ) → Refuses reads bytes 17 p q → Refuses reads (take (q + size (getD bytes q 0)) bytes ++ (255 ∷ 255 ∷ [])) 17 p q
 
 -- D11: both readers of planes

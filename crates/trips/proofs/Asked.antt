@@ -24,7 +24,18 @@ tidy-on : (b : ℕ) (c : List ℕ) → tidy (b ∷ c) ≡ true → tidy c ≡ tr
 tidy-on b [] h = refl
 tidy-on b (c ∷ d) h = h
 
--- k: where both data part. C: what they share does not end with FF. E: the second data end there
+-- where two data part: what they share does not end with FF; or the same byte, not 00, stands behind it in both; or nothing is said
+pub data Seam (C : Type 0) (common rest rest′ : List ℕ) : Type 0 where
+  even : tidy common ≡ true → Seam C common rest rest′
+  marked : {v : ℕ} {d d′ : List ℕ} → rest ≡ suc v ∷ d → rest′ ≡ suc v ∷ d′ → Seam C common rest rest′
+  unsaid : (C → ⊥) → Seam C common rest rest′
+
+seam-on : {C : Type 0} {rest rest′ : List ℕ} (b : ℕ) (c : List ℕ) → Seam C (b ∷ c) rest rest′ → Seam C c rest rest′
+seam-on b c (even h) = even (tidy-on b c h)
+seam-on b c (marked e e′) = marked e e′
+seam-on b c (unsaid n) = unsaid n
+
+-- k: where both data part. C: something is said of that place. E: the second data end there
 module _ (bytes : List ℕ) (k : ℕ) (C E : Type 0) where
   -- no FF stands in front of this byte
   abbrev pub Apart : ℕ → Type 0
@@ -37,7 +48,7 @@ module _ (bytes : List ℕ) (k : ℕ) (C E : Type 0) where
   -- what holds where bits are asked for: `common` is still to be read of what both share
   pub record Facts (pending : List Bool) (common rest rest′ : List ℕ) (seen last : ℕ) : Type 0 where
     pub upto : seen + length common ≡ k
-    pub clean : C → tidy common ≡ true
+    pub seam : Seam C common rest rest′
     pub ends : E → rest′ ≡ []
     pub held : (pending ≡ []) ⊎ (last < seen)
     pub whole : common ++ rest ≡ drop seen bytes
@@ -118,7 +129,7 @@ module _ (bytes : List ℕ) (k : ℕ) (C E : Type 0) where
         opened-both seen b 1 c r r′ last
         (record {
           upto = omega (arith, f .upto);
-          clean = λ t. tidy-on b c (f .clean t);
+          seam = seam-on b c (f .seam);
           ends = f .ends;
           held = inr (omega arith);
           whole = w .1;
@@ -127,10 +138,40 @@ module _ (bytes : List ℕ) (k : ℕ) (C E : Type 0) where
           pair = λ t q. absurd (eqb-false b 255 e (sym (w .0) ∙ q));
         }) (omega arith)
 
+  -- an FF with another byte than 00 behind it, in both
+  bare-both : (v : ℕ) (d d′ : List ℕ) (seen : ℕ) → 255 ∷ suc v ∷ d ≡ drop seen bytes → seen < k → Apart seen → Same (afterFF (suc v ∷ d) seen) (afterFF (suc v ∷ d′) seen)
+  unfolding afterFF
+  bare-both v d d′ seen e l a =
+      let w = here-is 255 seen (suc v ∷ d) e in
+      let n = here-is (suc v) (seen + 1) d (w .1) in (
+        refl,
+        record {
+          below = l;
+          later = λ q. omega arith;
+          apart = a;
+          marker = λ q. (w .0, more (seen + 1) (suc v) d (w .1), λ z. let y : suc v ≡ 0 = sym (n .0) ∙ z in omega arith);
+          pair = λ q. absurd (omega arith);
+        },
+      )
+
+  ff-ends : (seen : ℕ) → seen + 1 ≡ k → afterFF [] seen ≡ stopped (stop 12 k)
+  unfolding afterFF
+  ff-ends seen z = rw z
+
+  -- an FF that ends what both share
+  last-both : (r r′ : List ℕ) (seen last : ℕ) → Facts [] (255 ∷ []) r r′ seen last → Seam C (255 ∷ []) r r′ → Outs (afterFF r seen) (afterFF r′ seen)
+  last-both r r′ seen last f (even h) = absurd (true-false (sym h))
+  last-both r r′ seen last f (marked {v} {d} {d′} e e′) =
+      let w : 255 ∷ suc v ∷ d ≡ drop seen bytes = ap (λ (l : List ℕ). 255 ∷ l) (sym e) ∙ f .whole in
+      rw (e, e′) (inl (bare-both v d d′ seen w (omega (arith, f .upto)) (f .behind)))
+  last-both r r′ seen last f (unsaid n) = inr (λ t. absurd (n t), λ e. ended (f .ends e) (f .upto))
+    where
+      ended : r′ ≡ [] → seen + 1 ≡ k → afterFF r′ seen ≡ stopped (stop 12 k)
+      ended e z = rw e (ff-ends seen z)
+
   after-both : (c r r′ : List ℕ) (seen last : ℕ) → Facts [] (255 ∷ c) r r′ seen last → Outs (afterFF (c ++ r) seen) (afterFF (c ++ r′) seen)
   unfolding afterFF
-  after-both [] r r′ seen last f =
-      inr (λ t. absurd (true-false (sym (f .clean t))), λ e. let z : seen + 1 ≡ k = f .upto in rw (f .ends e, z))
+  after-both [] r r′ seen last f = last-both r r′ seen last f (f .seam)
   after-both (zero ∷ d) r r′ seen last f =
       let w = here-is 255 seen (0 ∷ (d ++ r)) (f .whole) in
       let v = here-is 0 (seen + 1) (d ++ r) (w .1) in
@@ -138,7 +179,7 @@ module _ (bytes : List ℕ) (k : ℕ) (C E : Type 0) where
       opened-both seen 255 2 d r r′ last
       (record {
         upto = omega (arith, f .upto);
-        clean = λ t. tidy-on 0 d (f .clean t);
+        seam = seam-on 0 d (seam-on 255 (0 ∷ d) (f .seam));
         ends = f .ends;
         held = inr (omega arith);
         whole = v .1 ∙ ap (λ (n : ℕ). drop n bytes) two;
@@ -146,19 +187,7 @@ module _ (bytes : List ℕ) (k : ℕ) (C E : Type 0) where
         before = f .behind;
         pair = λ t q. (more (seen + 1) 0 (d ++ r) (w .1), v .0);
       }) (omega arith)
-  after-both (suc v ∷ d) r r′ seen last f =
-      let w = here-is 255 seen (suc v ∷ (d ++ r)) (f .whole) in
-      let n = here-is (suc v) (seen + 1) (d ++ r) (w .1) in
-      inl (
-        refl,
-        record {
-          below = omega (arith, f .upto);
-          later = λ e. omega arith;
-          apart = f .behind;
-          marker = λ e. (w .0, more (seen + 1) (suc v) (d ++ r) (w .1), λ z. let y : suc v ≡ 0 = sym (n .0) ∙ z in omega arith);
-          pair = λ h. absurd (omega arith);
-        },
-      )
+  after-both (suc v ∷ d) r r′ seen last f = inl (bare-both v (d ++ r) (d ++ r′) seen (f .whole) (omega (arith, f .upto)) (f .behind))
 
   from-both : (p : List Bool) (c r r′ : List ℕ) (seen last : ℕ) → Facts p c r r′ seen last → Outs (takeFrom p (c ++ r) seen last) (takeFrom p (c ++ r′) seen last)
   unfolding takeFrom nextByte
@@ -175,7 +204,7 @@ module _ (bytes : List ℕ) (k : ℕ) (C E : Type 0) where
           last = last;
           here = refl;
           there = refl;
-          facts = record { upto = f .upto; clean = f .clean; ends = f .ends; held = inr t; whole = f .whole; behind = f .behind; before = f .before; pair = f .pair };
+          facts = record { upto = f .upto; seam = f .seam; ends = f .ends; held = inr t; whole = f .whole; behind = f .behind; before = f .before; pair = f .pair };
         },
         t,
       )
