@@ -7,7 +7,7 @@ use mathlib.Core.Bool.{Bool, true, false, cond}
 use native.Mathlib.Omega.{arith}
 use native.Mathlib.Nat.{div-add-mod'}
 use lib.ListN.{length, getD, take, drop, replicate, length-append, length-replicate}
-use lib.Seq.{drop-at, take-at, drop-append-add, getD-append-add}
+use lib.Seq.{drop-at, take-at, drop-drop, drop-append-add, getD-append-add}
 use lib.Dec.{eqb, ltb}
 use borrow.Author.Tests.{ne-eqb, lt-ltb, le-ltb, lt-leb, eqb-true}
 use Rattle.laws.proofs.Choices.{either, by-test}
@@ -15,9 +15,9 @@ use Rattle.answers.specs.declared.Outcome.the-variants.{Given}
 use Rattle.box_rules.specs.declared.Head.{Head}
 use Rattle.box_rules.specs.declared.Step.{Step}
 use Rattle.box_rules.specs.declared.Step.the-variants.{End, Skip, Meet}
-use Rattle.box_rules.specs.Walk.{be16, be32, headAt, ones, barred, tagged, packetAt, wholeAt, markedAt, stepAt, stepsFrom, begins, walk, ending}
+use Rattle.box_rules.specs.Walk.{be16, be32, be64, headAt, longHeadAt, ones, barred, tagged, packetAt, wholeAt, markedAt, stepAt, stepsFrom, begins, walk, ending}
 use Rattle.box_rules.specs.Packets.{Packet, packetsIn, packets}
-use Rattle.box_rules.specs.Layout.{Part, packed, other, two, four, segment, inner, bytesOf, allBytes, laidOut, packetsOf, Boxed, Plain, AllSound}
+use Rattle.box_rules.specs.Layout.{Part, packed, other, two, four, eight, headed, segment, inner, bytesOf, allBytes, laidOut, packetsOf, Boxed, Plain, AllSound}
 use Rattle.box_rules.proofs.Walking.{segment-at, packets-end, packets-skip, packets-meet, ending-end, ending-skip, ending-meet, walk-begun}
 
 ones-run : (n x : ℕ) (s : List ℕ) → (x ≡ 255 → ⊥) → ones (replicate n 255 ++ (x ∷ s)) ≡ n
@@ -146,55 +146,135 @@ same-head : (h : Head) (i n s g k : ℕ) → i ≡ h .instance → n ≡ h .numb
     → _≡_ {A = Head} (record { instance = i; number = n; stated = s; heading = g; kind = k }) h
 same-head h i n s g k a b c d e = rw (a, b, c, d, e)
 
-inner-length : (p : Packet) → length (inner p) ≡ length (p .payload) + 16
-unfolding inner two four
-inner-length p = omega arith
+not-ff : _≡_ {A = ℕ} 0xEB 255 → ⊥
+not-ff z = omega arith
 
-module _ (file front rest : List ℕ) (at fill : ℕ) (p : Packet) (e : file ≡ front ++ (segment fill 0xEB (inner p) ++ rest)) (f : length front ≡ at) (b : Boxed p) where
-  not-ff : _≡_ {A = ℕ} 0xEB 255 → ⊥
-  not-ff z = omega arith
+-- the packet p stands at a position, and the next segment begins behind it
+record Stands (file : List ℕ) (at : ℕ) (p : Packet) (next : ℕ) : Type 0 where
+  start : ℕ
+  len : ℕ
+  step : stepAt file at ≡ Meet (p .head) start len next
+  bytes : take len (drop start file) ≡ p .payload
+
+-- whatever its LBox is, and whatever stands between its type and its payload
+module _ (file front rest extra : List ℕ) (at fill lbox : ℕ) (p : Packet) (e : file ≡ front ++ (segment fill 0xEB (headed (p .head) lbox (extra ++ p .payload)) ++ rest))
+    (f : length front ≡ at) where
+  abbrev content : List ℕ
+  content = headed (p .head) lbox (extra ++ p .payload)
+
+  abbrev m : ℕ
+  m = at + suc fill
 
   inside-tail : List ℕ
-  inside-tail = tail file front (inner p) rest at fill 0xEB e f not-ff
+  inside-tail = tail file front content rest at fill 0xEB e f not-ff
 
   inside-shape : file ≡ front ++ (replicate (suc fill) 255 ++ (0xEB ∷ inside-tail))
   unfolding inside-tail
-  inside-shape = shape file front (inner p) rest at fill 0xEB e f not-ff
+  inside-shape = shape file front content rest at fill 0xEB e f not-ff
 
-  is-head : headAt file (at + suc fill) ≡ p .head
-  unfolding headAt inside-tail tail inner two four
-  is-head =
-      let in-two = pair file front inside-tail at fill 0xEB inside-shape f not-ff in
-      let in-four = quad file front inside-tail at fill 0xEB inside-shape f not-ff in
-      same-head (p .head) _ _ _ _ _ (in-two 5 ∙ div-add-mod' (p .head .instance) 256) (in-four 7 ∙ four-back (p .head .number)) (in-four 11 ∙ four-back (p .head .stated))
-      (sym (b .eight)) (in-four 15 ∙ four-back (p .head .kind))
+  in-four : (k : ℕ) → be32 file (m + k)
+      ≡ (getD (0xEB ∷ inside-tail) k 0 * 256 + getD (0xEB ∷ inside-tail) (k + 1) 0) * 65536 + (getD (0xEB ∷ inside-tail) (k + 2) 0 * 256 + getD (0xEB ∷ inside-tail) (k + 2 + 1) 0)
+  in-four = quad file front inside-tail at fill 0xEB inside-shape f not-ff
 
-  is-tagged : tagged file (at + suc fill) (length (inner p) + 2) ≡ true
-  unfolding tagged inside-tail tail inner two four
+  content-length : length content ≡ length extra + length (p .payload) + 16
+  unfolding headed two four
+  content-length = omega (arith, length-append extra (p .payload))
+
+  is-lbox : be32 file (m + 11) ≡ lbox
+  unfolding inside-tail tail headed two four
+  is-lbox = in-four 11 ∙ four-back lbox
+
+  -- what a head states, by the length that it states
+  is-head : (s g : ℕ) → s ≡ p .head .stated → g ≡ p .head .heading
+      → _≡_ {A = Head} (record { instance = be16 file (m + 5); number = be32 file (m + 7); stated = s; heading = g; kind = be32 file (m + 15) }) (p .head)
+  unfolding inside-tail tail headed two four
+  is-head s g is-stated is-heading =
+      same-head (p .head) _ _ _ _ _ (pair file front inside-tail at fill 0xEB inside-shape f not-ff 5 ∙ div-add-mod' (p .head .instance) 256)
+      (in-four 7 ∙ four-back (p .head .number)) is-stated is-heading (in-four 15 ∙ four-back (p .head .kind))
+
+  is-tagged : tagged file m (length content + 2) ≡ true
+  unfolding tagged inside-tail tail headed two four
   is-tagged =
       rw (
-        le-ltb (length (inner p) + 2) 4 (omega (arith, inner-length p)),
+        le-ltb (length content + 2) 4 (omega (arith, content-length)),
         there file front inside-tail at fill 0xEB inside-shape f not-ff 3,
         there file front inside-tail at fill 0xEB inside-shape f not-ff 4,
       )
 
-  is-payload : take (length (inner p) + 2 - 18) (drop (at + suc fill + 19) file) ≡ p .payload
-  unfolding inside-tail tail inner two four
-  is-payload =
-      ap (take (length (inner p) + 2 - 18)) (onward-from file front inside-tail at fill 0xEB inside-shape f not-ff 19)
-      ∙ take-at (p .payload) rest (length (inner p) + 2 - 18) (omega (arith, inner-length p))
+  behind-type : drop (m + 19) file ≡ extra ++ (p .payload ++ rest)
+  unfolding inside-tail tail headed two four
+  behind-type = onward-from file front inside-tail at fill 0xEB inside-shape f not-ff 19 ∙ append-assoc extra (p .payload) rest
 
-  packed-step : stepAt file at ≡ Meet (p .head) (at + suc fill + 19) (length (inner p) + 2 - 18) (at + suc fill + 1 + (length (inner p) + 2))
-  unfolding wholeAt barred packetAt
-  packed-step =
-      holds file front (inner p) rest at fill 0xEB e f not-ff (λ z. omega arith) refl
-      ∙ rw (
-        mark file front inside-tail at fill 0xEB inside-shape f not-ff,
-        is-tagged,
-        le-ltb (length (inner p) + 2) 18 (omega (arith, inner-length p)),
-        is-head,
-        le-ltb (p .head .stated) 8 (b .least),
-      )
+  is-payload : (x : ℕ) → length extra ≡ x → take (length content + 2 - (18 + x)) (drop (m + (19 + x)) file) ≡ p .payload
+  is-payload x w =
+      let z : m + (19 + x) ≡ m + 19 + x = omega arith in
+      ap (take (length content + 2 - (18 + x)))
+      (ap (λ (k : ℕ). drop k file) z ∙ sym (drop-drop x (m + 19) file) ∙ ap (drop x) behind-type ∙ drop-at extra (p .payload ++ rest) x w)
+      ∙ take-at (p .payload) rest (length content + 2 - (18 + x)) (omega (arith, content-length))
+
+  stands : (x : ℕ) → length extra ≡ x → packetAt file at m (length content + 2) ≡ Meet (p .head) (m + (19 + x)) (length content + 2 - (18 + x)) (m + 1 + (length content + 2))
+      → Stands file at p (m + 1 + (length content + 2))
+  unfolding wholeAt barred
+  stands x w is-packet = record {
+    start = m + (19 + x);
+    len = length content + 2 - (18 + x);
+    step = holds file front content rest at fill 0xEB e f not-ff (λ z. omega arith) refl
+        ∙ rw (mark file front inside-tail at fill 0xEB inside-shape f not-ff, is-tagged) is-packet;
+    bytes = is-payload x w;
+  }
+
+long-length : (file front rest : List ℕ) (at fill : ℕ) (p : Packet) → file ≡ front ++ (segment fill 0xEB (headed (p .head) 1 (eight (p .head .stated) ++ p .payload)) ++ rest)
+    → length front ≡ at → be64 file (at + suc fill + 19) ≡ p .head .stated
+unfolding be64 inside-tail tail headed eight four two
+long-length file front rest at fill p e f =
+    let read = in-four file front rest (eight (p .head .stated)) at fill 1 p e f in
+    let z : at + suc fill + 19 + 4 ≡ at + suc fill + 23 = omega arith in
+    rw (z, read 19 ∙ four-back (p .head .stated / 4294967296), read 23 ∙ four-back (p .head .stated % 4294967296)) (div-add-mod' (p .head .stated) 4294967296)
+
+module _ (file front rest : List ℕ) (at fill : ℕ) (p : Packet) (f : length front ≡ at) (least : p .head .heading ≤ p .head .stated) where
+  -- LBox states the length
+  short-stands : p .head .heading ≡ 8 → file ≡ front ++ (segment fill 0xEB (headed (p .head) (p .head .stated) (p .payload)) ++ rest)
+      → Stands file at p (at + suc fill + 1 + (length (headed (p .head) (p .head .stated) (p .payload)) + 2))
+  unfolding packetAt headAt
+  short-stands form e =
+      let lbox = is-lbox file front rest [] at fill (p .head .stated) p e f in
+      let head = is-head file front rest [] at fill (p .head .stated) p e f _ 8 lbox (sym form) in
+      stands file front rest [] at fill (p .head .stated) p e f 0 refl
+      (rw (
+        le-ltb (length (headed (p .head) (p .head .stated) (p .payload)) + 2) 18 (omega (arith, content-length file front rest [] at fill (p .head .stated) p e f)),
+        head,
+        lbox,
+        ne-eqb (p .head .stated) 1 (λ z. omega arith),
+        le-ltb (p .head .stated) 8 (omega arith),
+      ))
+
+  -- eight bytes behind the type do
+  long-stands : p .head .heading ≡ 16 → file ≡ front ++ (segment fill 0xEB (headed (p .head) 1 (eight (p .head .stated) ++ p .payload)) ++ rest)
+      → Stands file at p (at + suc fill + 1 + (length (headed (p .head) 1 (eight (p .head .stated) ++ p .payload)) + 2))
+  unfolding packetAt headAt longHeadAt eight four two
+  long-stands form e =
+      let extra : List ℕ = eight (p .head .stated) in
+      let long = content-length file front rest extra at fill 1 p e f in
+      let stated = long-length file front rest at fill p e f in
+      let head = is-head file front rest extra at fill 1 p e f _ 16 stated (sym form) in
+      stands file front rest extra at fill 1 p e f 8 refl
+      (rw (
+        le-ltb (length (headed (p .head) 1 (extra ++ p .payload)) + 2) 18 (omega arith),
+        is-lbox file front rest extra at fill 1 p e f,
+        le-ltb (length (headed (p .head) 1 (extra ++ p .payload)) + 2) 26 (omega arith),
+        head,
+        stated,
+        le-ltb (p .head .stated) 16 (omega arith),
+      ))
+
+packed-stands : (file front rest : List ℕ) (at fill : ℕ) (p : Packet) → file ≡ front ++ (segment fill 0xEB (inner p) ++ rest) → length front ≡ at → Boxed p
+    → Stands file at p (at + suc fill + 1 + (length (inner p) + 2))
+unfolding inner
+packed-stands file front rest at fill p e f b =
+    ⊎-elim
+    (λ s. let z : eqb (p .head .heading) 16 ≡ false = rw s in rw z (short-stands file front rest at fill p f (b .least) s (rw z at e)))
+    (λ l. let z : eqb (p .head .heading) 16 ≡ true = rw l in rw z (long-stands file front rest at fill p f (b .least) l (rw z at e)))
+    (b .form)
 
 -- ---- the parts of a file one after another, and its end
 
@@ -228,13 +308,12 @@ module _ (fill : ℕ) (behind : List ℕ) where
       record { met = packets-skip file at z ∙ later .met; well = ending-skip file at z ∙ later .well }
   walked (packed k p ∷ r) file front at e f s =
       let g : file ≡ front ++ (segment k 0xEB (inner p) ++ (allBytes r ++ last)) = e ∙ ap (λ (x : List ℕ). front ++ x) (append-assoc (segment k 0xEB (inner p)) (allBytes r) last) in
-      let z = packed-step file front (allBytes r ++ last) at k p g f (s .0) in
+      let z = packed-stands file front (allBytes r ++ last) at k p g f (s .0) in
       let later = walked r file (front ++ segment k 0xEB (inner p)) _ (g ∙ sym (append-assoc front (segment k 0xEB (inner p)) (allBytes r ++ last)))
       (sym (behind-of file front (inner p) (allBytes r ++ last) at k 0xEB g f (λ z. omega arith))) (s .1) in
       record {
-        met = packets-meet file at z
-            ∙ ap₂ (λ (b : List ℕ) (l : List Packet). record { head = p .head; payload = b } ∷ l) (is-payload file front (allBytes r ++ last) at k p g f (s .0)) (later .met);
-        well = ending-meet file at z ∙ later .well;
+        met = packets-meet file at (z .step) ∙ ap₂ (λ (b : List ℕ) (l : List Packet). record { head = p .head; payload = b } ∷ l) (z .bytes) (later .met);
+        well = ending-meet file at (z .step) ∙ later .well;
       }
 
 starts : (r : List ℕ) → begins (0xFF ∷ 0xD8 ∷ r) ≡ true

@@ -2,7 +2,9 @@ pub mod Runs
 pub mod Walking
 pub mod WalkCases
 pub mod BoxCases
+pub mod LongCases
 pub mod Strangers
+pub mod Lengthened
 pub mod StrangerCases
 pub mod Decimal
 pub mod Counts

@@ -30,7 +30,7 @@ module _ (kind instance : ℕ) where
   abbrev own : List Part → List Packet
   own parts = mine kind instance (packetsOf parts)
 
-  past : (x : Part) (a : List Part) → Stranger kind instance x → own (x ∷ a) ≡ own a
+  pub past : (x : Part) (a : List Part) → Stranger kind instance x → own (x ∷ a) ≡ own a
   unfolding mine packetsOf
   past (packed fill p) a s = rw (not-mine (p .head) s)
   past (other fill marker contents) a s = refl

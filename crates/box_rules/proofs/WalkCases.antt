@@ -10,7 +10,7 @@ use Rattle.box_rules.specs.declared.Step.{Step}
 use Rattle.box_rules.specs.declared.Step.the-variants.{End, Skip, Meet, Broken}
 use Rattle.box_rules.specs.Walk.{be16, be32, headAt, ones, barred, tagged, packetAt, wholeAt, sizedAt, markedAt, stepAt, stepsIn, stepsFrom, begins, walk, ending}
 use Rattle.box_rules.specs.Packets.{packetsIn, packets, isMine, mine}
-use Rattle.box_rules.specs.Layout.{packed, other, two, four, segment, inner, bytesOf, allBytes, laidOut}
+use Rattle.box_rules.specs.Layout.{packed, other, two, four, headed, segment, inner, bytesOf, allBytes, laidOut}
 
 -- a file of these bytes behind FF D8, and what stands at its first segment
 abbrev begun : List ℕ → List ℕ
@@ -140,7 +140,7 @@ pub written : laidOut (other 1 0xE0 (7 ∷ []) ∷ packed 0 (record { head = lpt
     ≡ 0xFF ∷ 0xD8 ∷ 0xFF ∷ 0xFF ∷ 0xE0 ∷ 0 ∷ 3 ∷ 7 ∷ 0xFF ∷ 0xEB ∷ 0x00 ∷ 0x15 ∷ 0x4A ∷ 0x50
     ∷ 0x00 ∷ 0x01 ∷ 0x00 ∷ 0x00 ∷ 0x00 ∷ 0x01 ∷ 0x00 ∷ 0x00 ∷ 0x00 ∷ 0x0B
     ∷ 0x4C ∷ 0x50 ∷ 0x54 ∷ 0x53 ∷ 0xAA ∷ 0xBB ∷ 0xCC ∷ 0xFF ∷ 0xFF ∷ 0xFF ∷ 0xDA ∷ 9 ∷ []
-unfolding two four segment inner bytesOf allBytes laidOut
+unfolding two four headed segment inner bytesOf allBytes laidOut
 written = refl
 
 abbrev of : ℕ → ℕ → Head

@@ -16,7 +16,7 @@ use Rattle.answers.specs.declared.Outcome.the-variants.{Given, Refused}
 use Rattle.box_rules.specs.declared.Head.{Head}
 use Rattle.box_rules.specs.declared.Step.{Step}
 use Rattle.box_rules.specs.declared.Step.the-variants.{End, Skip, Meet, Broken}
-use Rattle.box_rules.specs.Walk.{be16, headAt, ones, barred, tagged, packetAt, wholeAt, sizedAt, markedAt, stepAt, onward, stepsIn, stepsFrom, begins, walkFrom, walk, ending}
+use Rattle.box_rules.specs.Walk.{be16, be32, headAt, longHeadAt, heldAt, ones, barred, tagged, packetAt, wholeAt, sizedAt, markedAt, stepAt, onward, stepsIn, stepsFrom, begins, walkFrom, walk, ending}
 use Rattle.box_rules.specs.Packets.{packet, packetsIn, packets, mine, mineFrom}
 use Rattle.box_rules.proofs.Runs.{ones-end}
 
@@ -27,12 +27,16 @@ Forward file at (Broken r) = Unit
 Forward file at (Skip next) = (at < next) × (next ≤ length file)
 Forward file at (Meet head start len next) = (at < start) × (start + len ≡ next) × (next ≤ length file)
 
+forward-held : (file : List ℕ) (at : ℕ) (head : Head) (start len next : ℕ) → Forward file at (Meet head start len next) → Forward file at (heldAt at head start len next)
+forward-held file at head start len next h = by-test (Forward file at) (ltb (head .stated) (head .heading)) (λ t. tt) (λ t. h)
+
 forward-packet : (file : List ℕ) (at m len : ℕ) → at < m → m + 1 + len ≤ length file → Forward file at (packetAt file at m len)
 unfolding packetAt
 forward-packet file at m len h e =
     by-test (Forward file at) (ltb len 18) (λ t. tt) λ t.
-    by-test (Forward file at) (ltb (headAt file m .stated) 8) (λ u. tt) λ u.
-    omega (arith, ltb-false len 18 t)
+    by-test (Forward file at) (eqb (be32 file (m + 11)) 1)
+    (λ u. by-test (Forward file at) (ltb len 26) (λ v. tt) λ v. forward-held file at (longHeadAt file m) _ _ _ (omega (arith, ltb-false len 26 v)))
+    (λ u. forward-held file at (headAt file m) _ _ _ (omega (arith, ltb-false len 18 t)))
 
 forward-whole : (file : List ℕ) (at m len : ℕ) → at < m → m + 1 + len ≤ length file → Forward file at (wholeAt file at m len)
 unfolding wholeAt

@@ -12,7 +12,7 @@ use Rattle.box_rules.specs.Walk.{walk, ending}
 use Rattle.box_rules.specs.Packets.{Packet, packets, mine}
 use Rattle.box_rules.specs.Numbers.{numbers, firstTwice, firstMissing}
 
--- P6: two heads state one length of the box
+-- P6: "Packets of one box must agree on the length and on which form they use"
 unfoldable pub alike : Head → Head → Bool
 alike h g = cond (eqb (g .stated) (h .stated)) (eqb (g .heading) (h .heading)) false
 
@@ -21,7 +21,7 @@ unfoldable pub agree : Head → List Packet → Bool
 agree h [] = true
 agree h (p ∷ r) = cond (alike h (p .head)) (agree h r) false
 
--- P2, P9, P12: "LBox-8": the stated length less the head of the box
+-- P2, P9, P12: "the stated length less the box head in place of LBox-8"
 unfoldable pub contents : Head → ℕ
 contents h = h .stated - h .heading
 
@@ -44,7 +44,7 @@ joinedFrom (suc k) q ps = numbered q ps ++ joinedFrom k (suc q) ps
 unfoldable pub joined : List Packet → List ℕ
 joined ps = joinedFrom (length ps) 1 ps
 
--- N5, P6, P9, P12: 5, "packets disagree on LBox"; 6, "a sequence number stands twice"; 7, "a sequence number is missing";
+-- N5, P6, P9, P12: 5, "packets disagree on LBox", which "also covers mixed forms"; 6, "a sequence number stands twice"; 7, "a sequence number is missing";
 -- 8, "payload total is not LBox-8"; 9, "destination too short"
 unfoldable pub assembled : ℕ → Head → List Packet → Verdict ℕ
 assembled room h ps =

@@ -1,9 +1,12 @@
--- W10 and P24: a file as a writer sees it, the bytes of a number, a segment, a packet and a file; and when two files are the same for a type and instance. Nothing here knows of the walk.
+-- W10, P24 and P26: a file as a writer sees it, the bytes of a number, a segment, a packet and a file; when two files are the same for a type and instance, or in two forms. Nothing here knows of the walk.
 use Prim.Native.Nat.{ℕ, suc, _+_, _/_, _%_, _≤_, _<_}
 use mathlib.Core.Path.{_≡_}
 use mathlib.Core.Logic.{_⊎_}
 use mathlib.Core.List.{List, [], _∷_, _++_}
+use mathlib.Core.Bool.{cond}
 use lib.ListN.{length, replicate}
+use lib.Dec.{eqb}
+use Rattle.box_rules.specs.declared.Head.{Head}
 use Rattle.box_rules.specs.Packets.{Packet}
 
 -- W10: what a file is made of: packets and other segments, each with fill bytes in front of its marker
@@ -19,13 +22,24 @@ two n = n / 256 ∷ n % 256 ∷ []
 unfoldable pub four : ℕ → List ℕ
 four n = two (n / 65536) ++ two (n % 65536)
 
+-- W2: the same in eight bytes
+unfoldable pub eight : ℕ → List ℕ
+eight n = four (n / 4294967296) ++ four (n % 4294967296)
+
 -- W4: "A segment is FF, any further FF fill, a marker byte, a two-byte length that counts itself, contents."
 unfoldable pub segment : ℕ → ℕ → List ℕ → List ℕ
 segment fill marker contents = replicate (suc fill) 0xFF ++ (marker ∷ two (length contents + 2) ++ contents)
 
--- P1: "4A 50, instance (2), sequence number (4), LBox (4), type (4), payload"
+-- P1: "4A 50, instance (2), sequence number (4), LBox (4), type (4)", and what follows
+unfoldable pub headed : Head → ℕ → List ℕ → List ℕ
+headed h lbox rest = 0x4A ∷ 0x50 ∷ two (h .instance) ++ four (h .number) ++ four lbox ++ four (h .kind) ++ rest
+
+-- P1, P25: the payload follows the type; in the long form "LBox 1 and, after the type, an eight-byte length"
 unfoldable pub inner : Packet → List ℕ
-inner p = 0x4A ∷ 0x50 ∷ two (p .head .instance) ++ four (p .head .number) ++ four (p .head .stated) ++ four (p .head .kind) ++ p .payload
+inner p =
+    cond (eqb (p .head .heading) 16)
+    (headed (p .head) 1 (eight (p .head .stated) ++ p .payload))
+    (headed (p .head) (p .head .stated) (p .payload))
 
 -- W10: the bytes of a part; the marker of a packet is EB
 unfoldable pub bytesOf : Part → List ℕ
@@ -47,10 +61,10 @@ packetsOf [] = []
 packetsOf (packed fill p ∷ r) = p ∷ packetsOf r
 packetsOf (other fill marker contents ∷ r) = packetsOf r
 
--- W10: a packet whose LBox is 8 at least
+-- W10: a packet of the short form or of the long one, whose stated length holds the head of the box
 pub record Boxed (p : Packet) : Type 0 where
-  pub least : 8 ≤ p .head .stated
-  pub eight : p .head .heading ≡ 8
+  pub form : (p .head .heading ≡ 8) ⊎ (p .head .heading ≡ 16)
+  pub least : p .head .heading ≤ p .head .stated
 
 -- W10: a segment whose marker carries a length (02 to CF, DB to FE) and that is no packet
 pub record Plain (marker : ℕ) (contents : List ℕ) : Type 0 where
@@ -85,3 +99,20 @@ pub data SameFor (kind instance : ℕ) : List Part → List Part → Type 0 wher
   there : {x : Part} {a b : List Part} → Stranger kind instance x → SameFor kind instance a b → SameFor kind instance a (x ∷ b)
   exchanged : {x y : Part} {a : List Part} → SameFor kind instance (x ∷ (y ∷ a)) (y ∷ (x ∷ a))
   through : {a b c : List Part} → SameFor kind instance a b → SameFor kind instance b c → SameFor kind instance a c
+
+-- ---- two files that have a box in two forms
+
+-- P26: the long form of a head in the short one: "the length counts sixteen bytes of box head", where LBox counts eight
+unfoldable pub longer : Head → Head
+longer h = record { instance = h .instance; number = h .number; stated = h .stated + 8; heading = 16; kind = h .kind }
+
+-- P26: a packet with the same payload behind it
+unfoldable pub lengthened : Packet → Packet
+lengthened p = record { head = longer (p .head); payload = p .payload }
+
+-- P26: every packet of this type and instance is in the short form here and in the long form there; strangers are what they are
+pub data InLongForm (kind instance : ℕ) : List Part → List Part → Type 0 where
+  empty : InLongForm kind instance [] []
+  longer-there : {p : Packet} {a b : List Part} (fill fill′ : ℕ) → p .head .kind ≡ kind → p .head .instance ≡ instance → p .head .heading ≡ 8
+      → InLongForm kind instance a b → InLongForm kind instance (packed fill p ∷ a) (packed fill′ (lengthened p) ∷ b)
+  same-there : {x : Part} {a b : List Part} → Stranger kind instance x → InLongForm kind instance a b → InLongForm kind instance (x ∷ a) (x ∷ b)

@@ -1,5 +1,6 @@
 -- P11: "Bytes are handed out exactly if an ordering of all of them exists whose sequence numbers read 1, 2, .. n,
 -- all with one LBox, and whose payloads joined have LBox-8 bytes; then these are the bytes (given room)."
+-- The rule "reads the stated length less the box head in place of LBox-8" (A5).
 use Prim.Native.Nat.{ℕ, zero, suc, _≤_, _<_}
 use mathlib.Core.Path.{_≡_}
 use mathlib.Core.List.{List, [], _∷_, _++_}

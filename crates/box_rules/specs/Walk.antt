@@ -1,4 +1,4 @@
--- W1 to W9: what stands at a position of a file, and the walk as the list of its steps.
+-- W1 to W9, P1 to P3, P25: what stands at a position of a file, and the walk as the list of its steps.
 use Prim.Native.Nat.{ℕ, zero, suc, _+_, _*_, _-_}
 use mathlib.Core.List.{List, [], _∷_}
 use mathlib.Core.Bool.{Bool, true, false, cond}
@@ -19,6 +19,10 @@ be16 file i = getD file i 0 * 256 + getD file (i + 1) 0
 unfoldable pub be32 : List ℕ → ℕ → ℕ
 be32 file i = be16 file i * 65536 + be16 file (i + 2)
 
+-- W2: the same in eight bytes
+unfoldable pub be64 : List ℕ → ℕ → ℕ
+be64 file i = be32 file i * 4294967296 + be32 file (i + 4)
+
 -- W4: how many bytes FF a list begins with
 unfoldable pub ones : List ℕ → ℕ
 ones [] = 0
@@ -37,12 +41,22 @@ tagged file m len = cond (ltb len 4) false (cond (eqb (getD file (m + 3) 0) 0x4A
 unfoldable pub headAt : List ℕ → ℕ → Head
 headAt file m = record { instance = be16 file (m + 5); number = be32 file (m + 7); stated = be32 file (m + 11); heading = 8; kind = be32 file (m + 15) }
 
--- W8, W9, P1: "Length below 18 with 4A 50 present, or LBox below 8, gives 3", "where its segment begins"
+-- P25: with LBox 1 "after the type, an eight-byte length" is stated, and "the length counts sixteen bytes of box head"
+unfoldable pub longHeadAt : List ℕ → ℕ → Head
+longHeadAt file m = record { instance = headAt file m .instance; number = headAt file m .number; stated = be64 file (m + 19); heading = 16; kind = headAt file m .kind }
+
+-- W8: "LBox below 8, gives 3", or "a long length below 16": a stated length that does not hold the head of the box
+abbrev pub heldAt : ℕ → Head → ℕ → ℕ → ℕ → Step
+heldAt at head start len next = cond (ltb (head .stated) (head .heading)) (Broken (refusal 3 at)) (Meet head start len next)
+
+-- W8, W9, P1, P25: "Length below 18 with 4A 50 present", or "a segment length below 26 with" LBox 1, gives 3, "where its segment begins";
+-- with LBox 1 "the packet head is eight bytes longer"
 unfoldable pub packetAt : List ℕ → ℕ → ℕ → ℕ → Step
 packetAt file at m len =
     cond (ltb len 18) (Broken (refusal 3 at))
-    (cond (ltb (headAt file m .stated) 8) (Broken (refusal 3 at))
-    (Meet (headAt file m) (m + 19) (len - 18) (m + 1 + len)))
+    (cond (eqb (be32 file (m + 11)) 1)
+    (cond (ltb len 26) (Broken (refusal 3 at)) (heldAt at (longHeadAt file m) (m + 27) (len - 26) (m + 1 + len)))
+    (heldAt at (headAt file m) (m + 19) (len - 18) (m + 1 + len)))
 
 -- W7, W9: "A segment EB whose contents begin 4A 50 is a packet"; "Any other EB segment is skipped", and any other segment
 unfoldable pub wholeAt : List ℕ → ℕ → ℕ → ℕ → Step

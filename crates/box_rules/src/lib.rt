@@ -1,7 +1,7 @@
 // The rules of packets, boxes and the listing, and what they speak of; no function.
 use answers::Refusal;
 
-// P1: what the head of a packet states. Of the stated length of its box, `heading` bytes are the head of the box.
+// P1, P2, P25: what the head of a packet states. Of the stated length of its box, `heading` bytes are the head of the box: 8, or 16 in the long form.
 pub struct Head {
     pub instance: u16,
     pub number: u32,

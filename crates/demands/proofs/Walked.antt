@@ -14,7 +14,8 @@ use Rattle.answers.specs.declared.Refusal.{Refusal}
 use Rattle.answers.specs.declared.Outcome.{Outcome}
 use Rattle.answers.specs.declared.Outcome.the-variants.{Given, Refused}
 use Rattle.answers.proofs.Laws.{never-given}
-use Rattle.box_rules.specs.Walk.{be16, headAt, ones, barred, tagged, packetAt, wholeAt, sizedAt, markedAt, stepAt, stepsFrom, begins, walk, ending}
+use Rattle.box_rules.specs.Walk.{be16, be32, headAt, longHeadAt, heldAt, ones, barred, tagged, packetAt, wholeAt, sizedAt, markedAt, stepAt, stepsFrom, begins, walk, ending}
+use Rattle.box_rules.specs.declared.Head.{Head}
 use Rattle.box_rules.specs.declared.Step.{Step}
 use Rattle.box_rules.specs.declared.Step.the-variants.{End, Skip, Meet, Broken}
 use Rattle.box_rules.specs.Packets.{Packet, packets, mine}
@@ -35,9 +36,16 @@ BrokenIs at (Meet head start len next) = Unit {0}
 BrokenIs at (Broken r) = (r ≡ refusal 2 at) ⊎ (r ≡ refusal 3 at)
 
 module _ (file : List ℕ) (at : ℕ) where
+  broken-held : (head : Head) (start len next : ℕ) → BrokenIs at (heldAt at head start len next)
+  broken-held head start len next = by-test (BrokenIs at) (ltb (head .stated) (head .heading)) (λ t. inr refl) (λ t. tt)
+
   broken-packet : (m len : ℕ) → BrokenIs at (packetAt file at m len)
   unfolding packetAt
-  broken-packet m len = by-test (BrokenIs at) (ltb len 18) (λ t. inr refl) λ t. by-test (BrokenIs at) (ltb (headAt file m .stated) 8) (λ u. inr refl) λ u. tt
+  broken-packet m len =
+      by-test (BrokenIs at) (ltb len 18) (λ t. inr refl) λ t.
+      by-test (BrokenIs at) (eqb (be32 file (m + 11)) 1)
+      (λ u. by-test (BrokenIs at) (ltb len 26) (λ v. inr refl) (λ v. broken-held (longHeadAt file m) _ _ _))
+      (λ u. broken-held (headAt file m) _ _ _)
 
   broken-whole : (m len : ℕ) → BrokenIs at (wholeAt file at m len)
   unfolding wholeAt

@@ -5,7 +5,7 @@ use mathlib.Core.List.{List}
 use mathlib.Core.Bool.{true}
 use native.Mathlib.Omega.{arith}
 use lib.ListN.{length, drop}
-use borrow.Author.Tests.{le-ltb}
+use borrow.Author.Tests.{le-ltb, ne-eqb}
 use Rattle.box_rules.specs.declared.Step.the-variants.{Meet}
 use Rattle.box_rules.specs.Walk.{be16, be32, headAt, ones, barred, tagged, packetAt, wholeAt}
 use Rattle.box_rules.specs.Packets.{isMine}
@@ -33,7 +33,7 @@ module _ (file : List ℕ) (at len : ℕ) (t : Tagged file at) (least : 18 ≤ l
   unfolding packetAt headAt
   is-packet =
       let e : at + 1 + 11 ≡ at + 12 = omega arith in let f : at + 1 + 19 ≡ at + 20 = omega arith in let g : at + 1 + 1 + len ≡ at + 2 + len = omega arith in
-      rw (le-ltb len 18 least, e, f, g, le-ltb (be32 file (at + 12)) 8 stated)
+      rw (le-ltb len 18 least, e, f, g, ne-eqb (be32 file (at + 12)) 1 (λ z. omega arith), le-ltb (be32 file (at + 12)) 8 stated)
 
   pub here : Packed file at len
   unfolding wholeAt barred

@@ -1,12 +1,12 @@
-// One segment of a file, and the packet in it, by the full rules (docs/RULES.md, W2, W4 to W9, P1 to P3).
+// One segment of a file, and the packet in it, by the full rules (docs/RULES.md, W2, W4 to W9, P1 to P3, P25).
 use answers::Refusal;
 use box_rules::Head;
 use box_rules::Step;
 ghost use mathlib.Core.Path.{_≡_};
 ghost use Prim.Native.Nat.{_+_, _≤_, _<_};
 ghost use lib.ListN.{length, drop};
-ghost use Rattle.box_rules.specs.Walk.{ones, headAt, packetAt, wholeAt, sizedAt, stepAt};
-ghost use Rattle.box_rules.specs.Walk.{be16 as Walk·be16, be32 as Walk·be32, barred as Walk·barred, tagged as Walk·tagged};
+ghost use Rattle.box_rules.specs.Walk.{ones, headAt, longHeadAt, heldAt, packetAt, wholeAt, sizedAt, stepAt};
+ghost use Rattle.box_rules.specs.Walk.{be16 as Walk·be16, be32 as Walk·be32, be64 as Walk·be64, barred as Walk·barred, tagged as Walk·tagged};
 ghost use Rattle.answers.specs.Verdict.{refusal};
 
 fn wide(x: u8) -> u16
@@ -27,6 +27,13 @@ pub fn be32(file: &[u8], i: usize) -> u32
     ensures { λ r. ⌜ r ≡ Walk·be32 (now (file .entry)) i ⌝ }
 {
     (be16(file, i) as u32) * 65536 + (be16(file, i + 2) as u32)
+}
+
+fn be64(file: &[u8], i: usize) -> u64
+    requires { ⌜ i + 7 < length (now file) ⌝ }
+    ensures { λ r. ⌜ r ≡ Walk·be64 (now (file .entry)) i ⌝ }
+{
+    (be32(file, i) as u64) * 4294967296 + (be32(file, i + 4) as u64)
 }
 
 fn barred(b: u8) -> bool
@@ -84,6 +91,21 @@ pub fn head_at(file: &[u8], m: usize) -> Head
     }
 }
 
+// The same where LBox is 1: the length of the box stands behind the type.
+fn long_head_at(file: &[u8], m: usize) -> Head
+    requires { ⌜ m + 26 < length (now file) ⌝ }
+    ensures { λ r. ⌜ r ≡ longHeadAt (now (file .entry)) m ⌝ }
+{
+    let head = head_at(file, m);
+    Head {
+        instance: head.instance,
+        number: head.number,
+        stated: be64(file, m + 19),
+        heading: 16,
+        kind: head.kind,
+    }
+}
+
 fn broken(number: u32, place: usize) -> Step
     ensures { λ r. ⌜ r ≡ Step.Broken (refusal number place) ⌝ }
 {
@@ -94,6 +116,21 @@ fn broken(number: u32, place: usize) -> Step
     })
 }
 
+// A packet, unless the length that it states does not hold the head of its box.
+fn held_at(at: usize, head: Head, start: usize, len: usize, next: usize) -> Step
+    ensures { λ r. ⌜ r ≡ heldAt at head start len next ⌝ }
+{
+    if head.stated < head.heading {
+        return broken(3, at);
+    }
+    Step::Meet {
+        head,
+        start,
+        len,
+        next,
+    }
+}
+
 fn packet_at(file: &[u8], at: usize, m: usize, len: usize) -> Step
     requires { ⌜ m + 1 + len ≤ length (now file) ⌝ }
     ensures { λ r. ⌜ r ≡ packetAt (now (file .entry)) at m len ⌝ }
@@ -101,16 +138,14 @@ fn packet_at(file: &[u8], at: usize, m: usize, len: usize) -> Step
     if len < 18 {
         return broken(3, at);
     }
-    let head = head_at(file, m);
-    if head.stated < 8 {
-        return broken(3, at);
+    let next = m + 1 + len;
+    if be32(file, m + 11) == 1 {
+        if len < 26 {
+            return broken(3, at);
+        }
+        return held_at(at, long_head_at(file, m), m + 27, len - 26, next);
     }
-    Step::Meet {
-        head,
-        start: m + 19,
-        len: len - 18,
-        next: m + 1 + len,
-    }
+    held_at(at, head_at(file, m), m + 19, len - 18, next)
 }
 
 fn whole_at(file: &[u8], at: usize, m: usize, len: usize) -> Step
