@@ -17,4 +17,5 @@ pub mod PreviewLaws
 pub mod Byte
 pub mod Shams
 pub mod Practice
+pub mod Forms
 pub mod Written

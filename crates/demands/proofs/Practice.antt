@@ -1,6 +1,6 @@
 -- Practice does not reach live. Assumes nothing.
 use mathlib.Core.Path.{_≡_, refl, sym, ap, subst, _∙_}
-use mathlib.Core.Logic.{inr}
+use mathlib.Core.Logic.{inl, inr}
 use mathlib.Core.List.{List, [], _∷_}
 use Prim.Native.Nat.{ℕ, _≤_}
 use native.Mathlib.Omega.{arith}
@@ -12,7 +12,7 @@ use Rattle.box_rules.specs.Packets.{Packet, packetsIn, packets, isMine, mine}
 use Rattle.box_rules.specs.Numbers.{numbers, count, least, firstTwice, missingFrom, firstMissing}
 use Rattle.box_rules.specs.Box.{alike, agree, contents, total, numbered, joinedFrom, joined, assembled, assemble, boxBytes}
 use Rattle.box_rules.specs.Order.{Reordered, swap}
-use Rattle.box_rules.specs.Layout.{Part, packed, other, Boxed, Plain, two, four, segment, inner, bytesOf, allBytes, laidOut, AllSound, SameFor, empty, shared, there, exchanged, through}
+use Rattle.box_rules.specs.Layout.{Part, packed, other, Boxed, Plain, two, four, segment, headed, inner, bytesOf, allBytes, laidOut, AllSound, SameFor, empty, shared, there, exchanged, through}
 use Rattle.box_rules.proofs.Strangers.{self, same-for}
 use Rattle.box_laws.proofs.Reordering.{same-answer}
 use Rattle.box_laws.proofs.Written.{laid-out}
@@ -22,13 +22,16 @@ use Rattle.demands.proofs.Shams.{one-outcome}
 
 -- ---- the law
 
+-- two files for which the rules give one verdict, whatever the room
+pub by-verdict : (kind instance : ℕ) (file file′ : List ℕ) → ((room : ℕ) → boxBytes file kind instance room ≡ boxBytes file′ kind instance room) → AnsweredAlike kind instance file file′
+by-verdict kind instance file file′ v before after after′ answer answer′ m m′ =
+    let same = one-outcome ℕ 0 (boxBytes file′ kind instance (length before)) before after after′ answer answer′
+    (subst (λ (x : Verdict ℕ). Meets 0 x before after answer) (v (length before)) m) m′ in
+    record { number = ap (λ (a : Answer). a .number) (same .0); place = ap (λ (a : Answer). a .place) (same .0); second = ap (λ (a : Answer). a .second) (same .0); bytes = same .1 }
+
 module _ (kind instance : ℕ) (file file′ : List ℕ) (w : EndsWell file) (w′ : EndsWell file′) where
   in-any-order : Reordered (own kind instance file) (own kind instance file′) → AnsweredAlike kind instance file file′
-  in-any-order h before after after′ answer answer′ m m′ =
-      let v : boxBytes file kind instance (length before) ≡ boxBytes file′ kind instance (length before) = same-answer file file′ kind instance (length before) (w ∙ sym w′) h in
-      let same = one-outcome ℕ 0 (boxBytes file′ kind instance (length before)) before after after′ answer answer′
-      (subst (λ (x : Verdict ℕ). Meets 0 x before after answer) v m) m′ in
-      record { number = ap (λ (a : Answer). a .number) (same .0); place = ap (λ (a : Answer). a .place) (same .0); second = ap (λ (a : Answer). a .second) (same .0); bytes = same .1 }
+  in-any-order h = by-verdict kind instance file file′ (λ room. same-answer file file′ kind instance room (w ∙ sym w′) h)
 
   in-one-order : own kind instance file ≡ own kind instance file′ → AnsweredAlike kind instance file file′
   in-one-order e = in-any-order (subst (Reordered (own kind instance file)) e (self (own kind instance file)))
@@ -60,7 +63,7 @@ unfolding be16 be32 headAt ones barred tagged packetAt wholeAt sizedAt markedAt 
 met = (record { answered = refl; held = refl }, record { answered = refl; held = refl })
 
 -- what a call on one file comes to, a call on another that is answered alike comes to
-still : (file file′ : List ℕ) (number place : ℕ) (left : List ℕ) → Meets 0 (boxBytes file lpts 1 6) dots left (record { number = number; place = place; second = 0 })
+pub still : (file file′ : List ℕ) (number place : ℕ) (left : List ℕ) → Meets 0 (boxBytes file lpts 1 6) dots left (record { number = number; place = place; second = 0 })
     → AnsweredAlike lpts 1 file file′ → Answers file′ number place left
 still file file′ number place left m alike after answer m′ =
     let s = alike dots left after _ answer m m′ in
@@ -75,16 +78,16 @@ by-strangers = practice-apart .strangers lpts 1
 
 -- ---- the last picture as a writer lays it out
 
-abbrev holding : ℕ → ℕ → ℕ → ℕ → List ℕ → Packet
+abbrev pub holding : ℕ → ℕ → ℕ → ℕ → List ℕ → Packet
 holding kind instance number stated payload = record { head = record { instance = instance; number = number; stated = stated; heading = 8; kind = kind }; payload = payload }
 
-abbrev one : Packet
+abbrev pub one : Packet
 one = holding lpts 1 1 12 (0x39 ∷ 0x2E ∷ [])
 
-abbrev another : Packet
+abbrev pub another : Packet
 another = holding lpts 1 2 12 (0x35 ∷ 0x38 ∷ [])
 
-abbrev practised : Part
+abbrev pub practised : Part
 practised = packed 0 (holding lpts 2 1 12 (0x39 ∷ 0x2E ∷ 0x39 ∷ 0x39 ∷ []))
 
 abbrev toned : Part
@@ -103,15 +106,15 @@ abbrev elsewhereParts : List Part
 elsewhereParts = greeting ∷ practised ∷ packed 2 another ∷ toned ∷ remark (practice 1 []) ∷ packed 0 one ∷ []
 
 live-laid : laidOut liveParts 0 [] ≡ live
-unfolding laidOut allBytes bytesOf segment inner two four
+unfolding laidOut allBytes bytesOf segment inner headed two four
 live-laid = refl
 
 elsewhere-laid : laidOut elsewhereParts 1 (practice 1 []) ≡ elsewhere
-unfolding laidOut allBytes bytesOf segment inner two four
+unfolding laidOut allBytes bytesOf segment inner headed two four
 elsewhere-laid = refl
 
-boxed : (kind instance number stated : ℕ) (payload : List ℕ) → 8 ≤ stated → Boxed (holding kind instance number stated payload)
-boxed kind instance number stated payload h = record { least = h; eight = refl }
+pub boxed : (kind instance number stated : ℕ) (payload : List ℕ) → 8 ≤ stated → Boxed (holding kind instance number stated payload)
+boxed kind instance number stated payload h = record { form = inl refl; least = h }
 
 plain : (contents : List ℕ) → Plain 0xFE contents
 plain contents = record { low = omega arith; high = omega arith; carries = inr (omega arith); untagged = λ e r c. omega arith }

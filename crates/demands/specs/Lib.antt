@@ -9,4 +9,5 @@ pub mod Preview
 pub mod Byte
 pub mod Shams
 pub mod Practice
+pub mod Forms
 pub mod Written
