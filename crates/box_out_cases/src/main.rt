@@ -1,5 +1,5 @@
-// Replies of `box_out`, what it says on either side written here on standard output: the box of case a, each kind of refusal
-// that has a line, a file that is too long, and words that ask for nothing.
+// Replies of `box_out`, what it says on either side written here on standard output: the box of case a, also in the long form, each kind of
+// refusal that has a line, a file that is too long, and words that ask for nothing.
 fn say(text: &[u8]) {
     io::write_all(1, text);
 }
@@ -33,6 +33,13 @@ fn main() {
     case_a(b"LPTS", b"2", 64);
     case_a(b"LPTS", b"1", 26);
     show(b"LPTS", b"1", b"\xFF\xD8\xFF\xE0", 64);
+    // the same box in the long form, in two packets, the second one first
+    show(
+        b"LPTS",
+        b"1",
+        b"\xFF\xD8\xFF\xEB\x00\x1C\x4A\x50\x00\x01\x00\x00\x00\x02\x00\x00\x00\x01\x4C\x50\x54\x53\x00\x00\x00\x00\x00\x00\x00\x13bc\xFF\xEB\x00\x1B\x4A\x50\x00\x01\x00\x00\x00\x01\x00\x00\x00\x01\x4C\x50\x54\x53\x00\x00\x00\x00\x00\x00\x00\x13a\xFF\xDA",
+        64,
+    );
     case_a(b"LPT", b"1", 64);
     case_a(b"LPTS", b"65536", 64);
     case_a(b"LPTS", b"", 64);
