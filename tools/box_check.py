@@ -1,6 +1,7 @@
 #!/usr/bin/env python3
-"""box_check: random files with fill, strangers, shuffles, repeats, gaps, damage and cuts; what target/bin/box_out and
+"""box_check: random files with boxes of both forms, fill, strangers, shuffles, repeats, gaps, damage and cuts; what target/bin/box_out and
 target/bin/listing write is held to a second reading of the rules (docs/RULES.md, W and P), written here. Prints how often each number was met.
+A form is how many bytes of the stated length are the head of the box: 8, the length is LBox; 16, LBox is 1 and the length stands in eight bytes behind the type.
 Run `rt check box_out listing` first.  box_check.py [FILES] [SEED]"""
 import collections, platform, random, struct, subprocess, sys
 
@@ -8,7 +9,7 @@ import collections, platform, random, struct, subprocess, sys
 RUN = [] if platform.machine() == 'x86_64' else ['qemu-x86_64', '-L', '/usr/x86_64-linux-gnu']
 
 def walk(d):
-    """the packets (instance, number, LBox, type, payload), or a number and a place"""
+    """the packets (instance, number, (stated length, form), type, payload), or a number and a place"""
     if d[:2] != b'\xff\xd8': return None, (1, 0)
     at, met = 2, []
     while True:
@@ -23,9 +24,13 @@ def walk(d):
         c = d[m + 3:m + 1 + n]
         if d[m] == 0xeb and c[:2] == b'JP':
             if n < 18: return None, (3, at)
-            i, q, lbox = struct.unpack('>HII', c[2:12])
-            if lbox < 8: return None, (3, at)
-            met.append((i, q, lbox, c[12:16], c[16:]))
+            i, q, stated = struct.unpack('>HII', c[2:12])
+            form = 16 if stated == 1 else 8
+            if form == 16:
+                if n < 26: return None, (3, at)
+                stated = int.from_bytes(c[16:24], 'big')
+            if stated < form: return None, (3, at)
+            met.append((i, q, (stated, form), c[12:16], c[8 + form:]))
         at = m + 1 + n
 
 def box(d, kind, instance):
@@ -40,7 +45,8 @@ def box(d, kind, instance):
     gone = [q for q in range(1, len(ps) + 1) if q not in counts]
     if gone: return 7, gone[0]
     b = b''.join(p[4] for p in sorted(ps, key=lambda p: p[1]))
-    if len(b) != ps[0][2] - 8: return 8, len(b)
+    stated, form = ps[0][2]
+    if len(b) != stated - form: return 8, len(b)
     return 0, b
 
 def listing(d):
@@ -48,15 +54,24 @@ def listing(d):
     lines = ''.join('%d %d %d %s\n' % (p[0], p[1], len(p[4]), p[3].hex().upper()) for p in met or [])
     return 'instance number bytes type\n' + lines + 'answer %d %d\n' % end
 
+def sized(r, stated, form, kind, part):
+    """a packet from its LBox on; now and then of the other form, with an edge for its long length, or cut within it"""
+    if r.random() < .02: form = 24 - form
+    if form == 8: return struct.pack('>I', stated % 2 ** 32) + kind + part
+    if r.random() < .03: stated = r.choice([15, 16, stated + 2 ** 32, stated + 2 ** 63, 2 ** 64 - 1])
+    whole = struct.pack('>I4sQ', 1, kind, stated % 2 ** 64) + part
+    return whole[:r.randrange(8, 16)] if r.random() < .01 else whole
+
 def made(r):
     ps = []
     for kind, instance in [(b'LPTS', 1), (b'LPTS', 2), (b'FINE', 1)]:
-        n = r.randrange(5)
+        n, form = r.randrange(5), r.choice([8, 16])
         parts = [bytes(r.randrange(256) for _ in range(r.randrange(4))) for _ in range(n)]
-        lbox = 8 + sum(map(len, parts)) + (r.random() < .1)
+        stated = form + sum(map(len, parts)) + (r.random() < .1)
+        if form == 16 and r.random() < .1: stated = r.choice([16, stated + 2 ** 32, stated + 2 ** 63, 2 ** 64 - 1])
         for k, part in enumerate(parts):
             q = k + 1 if r.random() < .93 else r.choice([0, 1, 2, 3, n + 1, 2 ** 32 - 1])
-            ps.append(struct.pack('>HII', instance, q, lbox + (r.random() < .04)) + kind + part)
+            ps.append(struct.pack('>HI', instance, q) + sized(r, stated + (r.random() < .04), form, kind, part))
     if r.random() < .5: r.shuffle(ps)
     out = b'\xff\xd8'
     for p in ps:

@@ -59,8 +59,8 @@ fn run_all(bytes: &[u8]) {
 }
 
 // Room for the records: an array that a function makes is not written out in the proof of its caller.
-fn file_room() -> [u8; 300000] {
-    [0u8; 300000]
+fn file_room() -> [u8; 400000] {
+    [0u8; 400000]
 }
 
 fn main() {
