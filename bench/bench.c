@@ -1,6 +1,6 @@
 /* bench: each call of libreader_c beside the plain C version of the same rules, built by gcc and by clang, on the same input in the same run.
  * A line for each: units a second, our time over that of each compiler's plain C, and the ratio of our times at twice the size (2 is linear).
- * The same answer is the same number, place, second place and destination; damaged planes are compared too. */
+ * The same answer is the same number, place, second place and destination; damaged planes and small files of boxes are compared too. */
 #include <stdio.h>
 #include <stdlib.h>
 #include <string.h>
@@ -30,10 +30,11 @@ static int bad;
 
 typedef uint32_t (*run)(size_t size, uint64_t *place, uint64_t *second);
 
-/* a call's time: as many calls as last */
+/* a call's time: as many calls as last; a call in front of them, which is not timed, makes the file where there is one */
 static double seconds(run f, size_t size, uint64_t *place, uint64_t *second)
 {
     int calls = 0;
+    f(size, place, second);
     double begin = now(), spent;
     do {
         f(size, place, second);
@@ -109,8 +110,8 @@ static uint32_t po(size_t n, uint64_t *p, uint64_t *s) { return owed_by(xt_previ
 static uint32_t mg(size_t n, uint64_t *p, uint64_t *s) { return xt_merge(8, 4, 4, 3, n, 1, 0, 0, 1, 1, base, 3 * n, residual, 3 * n, quantisers, 0, (const int16_t *)quantisers, 0, merged1, 3 * n, p, s); }
 static uint32_t mg1(size_t n, uint64_t *p, uint64_t *s) { return xt_merge(8, 0, 0, 1, n, 0, 0, 0, 0, 0, base, n, residual, 0, quantisers, 0, (const int16_t *)quantisers, 0, merged1, n, p, s); }
 
-/* `size` bytes of box in packets of `each`, in file order or backward */
-static size_t each, backward, lost;
+/* `size` bytes of box in packets of `each`, in file order or backward, in the short form or the long one */
+static size_t each, backward, lost, in_long;
 static size_t made;
 static void made_for(size_t size);
 static uint32_t bx(size_t n, uint64_t *p, uint64_t *s) { made_for(n); return xt_box_bytes(file, file_len, 0x46494E45, 1, box1, sizeof box1, p, s); }
@@ -132,24 +133,33 @@ RUNS(gcc)
 RUNS(clang)
 #endif
 
-static void packet(uint32_t number, uint32_t lbox, size_t len)
+/* a number in n bytes at the file's end */
+static void append(uint64_t v, int n) { while (n--) file[file_len++] = (uint8_t)(v >> 8 * n); }
+
+/* the head of a box: 8 bytes, and 16 in the long form */
+static size_t head_of(int is_long) { return is_long ? 16 : 8; }
+
+/* a packet of FINE; in the long form LBox is 1 and the stated length stands behind the type */
+static void packet(uint16_t instance, uint32_t number, int is_long, uint64_t stated, size_t len)
 {
-    uint8_t head[20] = {0xFF, 0xEB, (uint8_t)((len + 18) >> 8), (uint8_t)(len + 18), 0x4A, 0x50, 0, 1, (uint8_t)(number >> 24), (uint8_t)(number >> 16), (uint8_t)(number >> 8), (uint8_t)number,
-                        (uint8_t)(lbox >> 24), (uint8_t)(lbox >> 16), (uint8_t)(lbox >> 8), (uint8_t)lbox, 'F', 'I', 'N', 'E'};
-    memcpy(file + file_len, head, 20);
-    file_len += 20;
-    for (size_t i = 0; i < len; i++) file[file_len++] = (uint8_t)rnd(256);
+    append(0xFFEB, 2);
+    append(10 + head_of(is_long) + len, 2);
+    append(0x4A50, 2);
+    append(instance, 2);
+    append(number, 4);
+    append(is_long ? 1 : stated, 4);
+    append(0x46494E45, 4);
+    if (is_long) append(stated, 8);
+    for (size_t i = 0; i < len; i++) append(rnd(256), 1);
 }
 
 static void picture(size_t size)
 {
     size_t n = size / each;
-    file_len = 2;
-    file[0] = 0xFF;
-    file[1] = 0xD8;
-    for (size_t i = 0; i < n; i++) packet((uint32_t)(backward ? n - i : i + 1 + (lost && i >= n / 2)), (uint32_t)(n * each + 8), each);
-    file[file_len++] = 0xFF;
-    file[file_len++] = 0xDA;
+    file_len = 0;
+    append(0xFFD8, 2);
+    for (size_t i = 0; i < n; i++) packet(1, (uint32_t)(backward ? n - i : i + 1 + (lost && i >= n / 2)), (int)in_long, n * each + head_of((int)in_long), each);
+    append(0xFFDA, 2);
 }
 static void made_for(size_t size) { if (made != size) { picture(size); made = size; } }
 
@@ -178,6 +188,13 @@ static void growth(void)
 
 enum { TRIED = 20000, FEW = 6, ROOM = 63 * FEW };
 static size_t met[23];
+
+static void numbers_met(void)
+{
+    for (size_t k = 0; k < sizeof met / sizeof met[0]; k++)
+        if (met[k]) printf(" %zu: %zu", k, met[k]);
+    printf("\n");
+}
 
 /* the `len` bytes of a sound plane cut, or up to two of them altered: the length that is left */
 static size_t damage(uint8_t *bytes, size_t len)
@@ -234,17 +251,111 @@ static void damaged(void)
     }
     bad += same != TRIED;
     printf("\n%d damaged planes, %d with the same number, place, second place and values; numbers met:", TRIED, same);
-    for (size_t k = 0; k < sizeof met / sizeof met[0]; k++)
-        if (met[k]) printf(" %zu: %zu", k, met[k]);
-    printf("\n");
+    numbers_met();
 }
 
-static void boxes_of(size_t bytes, size_t backwards, const char *name, size_t size)
+/* ---- small files of boxes in both forms: sound, shuffled, mixed, damaged or cut; of these too only the answers are compared */
+
+enum { SMALL = 64, TEXT = 512 };
+
+/* A box of up to four packets, shuffled, with strangers and fill between. What is wrong: the length that all state (1, 2), a number (3), a form (4), a length (5), a packet's end (6), or nothing. */
+static void small(void)
+{
+    static const uint64_t edges[] = {0, 1, 2, 7, 8, 15, 16, UINT32_MAX, UINT64_MAX - 15, UINT64_MAX - 7, UINT64_MAX};
+    uint32_t n = 1 + rnd(4), wrong = rnd(9), which = rnd(n), numbers[4] = {0}, lens[4];
+    int form = (int)rnd(2);
+    uint64_t stated = head_of(form);
+    for (uint32_t i = 0; i < n; i++) {
+        uint32_t j = rnd(i + 1);
+        numbers[i] = numbers[j];
+        numbers[j] = i + 1;
+        stated += lens[i] = rnd(12);
+    }
+    if (wrong == 1) stated = edges[rnd(sizeof edges / sizeof edges[0])];
+    if (wrong == 2) stated += rnd(2) ? 8 : (uint64_t)1 << 32;
+    if (wrong == 3) numbers[which] = rnd(n + 2);
+    file_len = 0;
+    append(0xFFD8, 2);
+    for (uint32_t i = 0; i < n; i++) {
+        if (rnd(4) == 0) packet(2, 1, (int)rnd(2), 16 + rnd(9), rnd(9));
+        if (rnd(4) == 0) append(0xFFFFFFFF, 1 + (int)rnd(2));
+        size_t at = file_len + 2;
+        packet(1, numbers[i], form ^ (wrong == 4 && i == which), stated + (wrong == 5 && i == which), lens[i]);
+        if (wrong == 6 && i == which) {
+            size_t end = file_len - 1 - rnd(lens[i] + 12);
+            file_len = at;
+            append(end - at, 2);
+            file_len = end;
+        }
+    }
+    append(0xFFDA, 2);
+    if (rnd(3) == 0) file_len = damage(file, file_len);
+}
+
+/* an answer of plain C beside ours (n1, in box1) */
+static int as_our_box(uint32_t n1, uint32_t n2, size_t bytes) { return alike(n1, n2) && memcmp(box1, box2, bytes) == 0; }
+
+static void untouched(size_t bytes) { memset(box2, 0x5A, bytes); }
+
+static int small_box(size_t room)
+{
+    memset(box1, 0x5A, SMALL);
+    untouched(SMALL);
+    unwritten();
+    uint32_t n1 = xt_box_bytes(file, file_len, 0x46494E45, 1, box1, room, &place1, &second1);
+    met[n1]++;
+    int same = as_our_box(n1, gcc_box_bytes(file, file_len, 0x46494E45, 1, box2, room, &place2, &second2), SMALL);
+#ifdef BY_CLANG
+    untouched(SMALL);
+    same &= as_our_box(n1, clang_box_bytes(file, file_len, 0x46494E45, 1, box2, room, &place2, &second2), SMALL);
+#endif
+    return same;
+}
+
+static int small_listing(size_t room)
+{
+    memset(box1, 0x5A, TEXT);
+    untouched(TEXT);
+    unwritten();
+    uint32_t n1 = xt_list_packets(file, file_len, box1, room, &place1, &second1);
+    int same = as_our_box(n1, gcc_list_packets(file, file_len, box2, room, &place2, &second2), TEXT);
+#ifdef BY_CLANG
+    untouched(TEXT);
+    same &= as_our_box(n1, clang_list_packets(file, file_len, box2, room, &place2, &second2), TEXT);
+#endif
+    return same;
+}
+
+static void small_files(void)
+{
+    int same = 0;
+    memset(met, 0, sizeof met);
+    for (int t = 0; t < TRIED; t++) {
+        size_t room = rnd(8) ? SMALL : rnd(SMALL), text = rnd(8) ? TEXT : rnd(TEXT);
+        small();
+        same += small_box(room) & small_listing(text);
+    }
+    bad += same != TRIED;
+    printf("\n%d small files of boxes in both forms, %d with the same number, place, second place, bytes and listing; numbers met:", TRIED, same);
+    numbers_met();
+}
+
+static void boxes_of(size_t bytes, size_t backwards, size_t longs, const char *name, size_t size)
 {
     each = bytes;
     backward = backwards;
+    in_long = longs;
     made = 0;
     compare(name, "bytes", size, size, bx, BOTH(bx), box1, box2, size);
+}
+
+static void listing_of(size_t longs, const char *name, size_t size)
+{
+    each = 20;
+    backward = 0;
+    in_long = longs;
+    made = 0;
+    compare(name, "bytes", size, size, ls, BOTH(ls), box1, box2, 20000);
 }
 
 /* Random samples go either way at every clip; steady ones are a slow slope, as a wall or a track is. */
@@ -279,15 +390,21 @@ int main(void)
     compare("xt_preview_owes, 1,024 tables", "numbers", 64 * BLOCKS, BLOCKS, po, BOTH(po), owed1, owed2, sizeof owed1);
     merges("xt_merge, 3 components, both transforms, random samples", "xt_merge, 1 component, straight curve, random samples", 0);
     merges("the same, 3 components, steady samples", "the same, 1 component, steady samples", 1);
-    boxes_of(60000, 0, "xt_box_bytes, packets of 60,000 bytes in order", 3000000);
-    boxes_of(60000, 1, "xt_box_bytes, the same backward", 3000000);
-    boxes_of(20, 0, "xt_box_bytes, packets of 20 bytes in order", 1000000);
-    boxes_of(20, 1, "xt_box_bytes, the same backward", 1000000);
-    boxes_of(20, 1, "xt_box_bytes, 80,000 packets of 20 bytes backward", 1600000);
-    each = 20; backward = 0; made = 0;
-    compare("xt_list_packets, packets of 20 bytes", "bytes", 30000, 30000, ls, BOTH(ls), box1, box2, 20000);
+    boxes_of(60000, 0, 0, "xt_box_bytes, packets of 60,000 bytes in order", 3000000);
+    boxes_of(60000, 1, 0, "xt_box_bytes, the same backward", 3000000);
+    boxes_of(20, 0, 0, "xt_box_bytes, packets of 20 bytes in order", 1000000);
+    boxes_of(20, 1, 0, "xt_box_bytes, the same backward", 1000000);
+    boxes_of(20, 1, 0, "xt_box_bytes, 80,000 packets of 20 bytes backward", 1600000);
+    boxes_of(60000, 0, 1, "xt_box_bytes, long form, packets of 60,000 bytes in order", 3000000);
+    boxes_of(60000, 1, 1, "xt_box_bytes, the same backward", 3000000);
+    boxes_of(20, 0, 1, "xt_box_bytes, long form, packets of 20 bytes in order", 1000000);
+    boxes_of(20, 1, 1, "xt_box_bytes, the same backward", 1000000);
+    listing_of(0, "xt_list_packets, packets of 20 bytes", 30000);
+    listing_of(1, "xt_list_packets, long form, packets of 20 bytes", 26000);
+    in_long = 0;
     growth();
     damaged();
+    small_files();
     printf("\n%d differ\n", bad);
     return bad != 0;
 }

@@ -369,7 +369,8 @@ uint32_t PLAIN(preview_owes)(uint32_t left, const uint16_t *q, size_t nq, uint32
 
 /* ---- boxes: the packets of one type and instance, sorted by number */
 
-typedef struct { uint32_t number, lbox; const uint8_t *payload; size_t len; } packet;
+/* the stated length counts the box's head: 8 bytes, and 16 in the long form */
+typedef struct { uint32_t number; uint16_t head, len; uint64_t stated; const uint8_t *payload; } packet;
 
 static int by_number(const void *a, const void *b)
 {
@@ -382,6 +383,25 @@ static uint32_t be(const uint8_t *p, int n)
     uint32_t v = 0;
     while (n--) v = v << 8 | *p++;
     return v;
+}
+
+static int is_packet(const uint8_t *m, size_t size) { return *m == 0xEB && size >= 4 && m[3] == 0x4A && m[4] == 0x50; }
+
+/* the packet whose marker stands at m, of a segment of this length; 0 where its head is broken (3) */
+static int packet_at(const uint8_t *m, size_t size, packet *p)
+{
+    if (size < 18) return 0;
+    p->number = be(m + 7, 4);
+    p->stated = be(m + 11, 4);
+    p->head = 8;
+    if (p->stated == 1) {
+        if (size < 26) return 0;
+        p->stated = (uint64_t)be(m + 19, 4) << 32 | be(m + 23, 4);
+        p->head = 16;
+    }
+    p->payload = m + 11 + p->head;
+    p->len = (uint16_t)(size - 10 - p->head);
+    return p->stated >= p->head;
 }
 
 uint32_t PLAIN(box_bytes)(const uint8_t *file, size_t len, uint32_t type, uint16_t instance, uint8_t *out, size_t room, uint64_t *place, uint64_t *second)
@@ -398,10 +418,10 @@ uint32_t PLAIN(box_bytes)(const uint8_t *file, size_t len, uint32_t type, uint16
         if (marker <= 1 || (marker >= 0xD0 && marker <= 0xD9) || m + 3 > len) return refused(2, at, out, room, place, second);
         size_t size = be(file + m + 1, 2);
         if (size < 2 || m + 1 + size > len) return refused(2, at, out, room, place, second);
-        if (marker == 0xEB && size >= 4 && file[m + 3] == 0x4A && file[m + 4] == 0x50) {
-            if (size < 18 || be(file + m + 11, 4) < 8) return refused(3, at, out, room, place, second);
+        if (is_packet(file + m, size)) {
+            packet p;
+            if (!packet_at(file + m, size, &p)) return refused(3, at, out, room, place, second);
             if (be(file + m + 5, 2) == instance && be(file + m + 15, 4) == type) {
-                packet p = {be(file + m + 7, 4), be(file + m + 11, 4), file + m + 19, size - 18};
                 packets[n++] = p;
                 total += p.len;
             }
@@ -410,7 +430,7 @@ uint32_t PLAIN(box_bytes)(const uint8_t *file, size_t len, uint32_t type, uint16
     }
     if (n == 0) return refused(4, 0, out, room, place, second);
     for (size_t i = 1; i < n; i++)
-        if (packets[i].lbox != packets[0].lbox) return refused(5, 0, out, room, place, second);
+        if (packets[i].stated != packets[0].stated || packets[i].head != packets[0].head) return refused(5, 0, out, room, place, second);
     int sorted = 1;
     for (size_t i = 1; i < n; i++) sorted &= packets[i - 1].number < packets[i].number;
     if (!sorted) qsort(packets, n, sizeof *packets, by_number);
@@ -419,7 +439,7 @@ uint32_t PLAIN(box_bytes)(const uint8_t *file, size_t len, uint32_t type, uint16
     size_t want = 1;
     for (size_t i = 0; i < n; i++) want += packets[i].number == want;
     if (want <= n) return refused(7, want, out, room, place, second);
-    if (total != packets[0].lbox - 8) return refused(8, total, out, room, place, second);
+    if (total != packets[0].stated - packets[0].head) return refused(8, total, out, room, place, second);
     if (room < total) return refused(9, total, out, room, place, second);
     size_t to = 0;
     for (size_t i = 0; i < n; i++) {
@@ -438,39 +458,43 @@ static size_t text(uint8_t *out, size_t room, size_t at, const char *s)
     return at;
 }
 
+/* one walk over the packets: its answer, and where it was refused; with `lines` the packets' lines are written */
+static uint32_t walked(const uint8_t *file, size_t len, size_t *at, int lines, uint8_t *out, size_t room, size_t *to)
+{
+    char line[80];
+    packet p;
+    *at = 0;
+    if (len > 65536) return 20;
+    if (len < 2 || file[0] != 0xFF || file[1] != 0xD8) return 1;
+    for (*at = 2;;) {
+        size_t m = *at, size;
+        while (m < len && file[m] == 0xFF) m++;
+        if (m == *at || m >= len) return 2;
+        if (file[m] == 0xDA) break;
+        if (file[m] <= 1 || (file[m] >= 0xD0 && file[m] <= 0xD9) || m + 3 > len) return 2;
+        size = be(file + m + 1, 2);
+        if (size < 2 || m + 1 + size > len) return 2;
+        if (is_packet(file + m, size)) {
+            if (!packet_at(file + m, size, &p)) return 3;
+            if (lines) {
+                snprintf(line, sizeof line, "%u %u %u %08X\n", be(file + m + 5, 2), p.number, p.len, be(file + m + 15, 4));
+                *to = text(out, room, *to, line);
+            }
+        }
+        *at = m + 1 + size;
+    }
+    *at = 0;
+    return 0;
+}
+
+/* A refused file has no lines. What stands past the text keeps its contents, so no line is written until the answer is known. */
 uint32_t PLAIN(list_packets)(const uint8_t *file, size_t len, uint8_t *out, size_t room, uint64_t *place, uint64_t *second)
 {
     char line[80];
-    size_t to = text(out, room, 0, "instance number bytes type\n"), begin = to, at = 2;
-    uint32_t number = len > 65536 ? 20 : 0;
-    if (!number && (len < 2 || file[0] != 0xFF || file[1] != 0xD8)) number = 1, at = 0;
-    while (!number) {
-        size_t m = at, size;
-        while (m < len && file[m] == 0xFF) m++;
-        number = 2;
-        if (m == at || m >= len) break;
-        if (file[m] == 0xDA) {
-            number = 0;
-            at = 0;
-            break;
-        }
-        if (file[m] <= 1 || (file[m] >= 0xD0 && file[m] <= 0xD9) || m + 3 > len) break;
-        size = be(file + m + 1, 2);
-        if (size < 2 || m + 1 + size > len) break;
-        number = 0;
-        if (file[m] == 0xEB && size >= 4 && file[m + 3] == 0x4A && file[m + 4] == 0x50) {
-            if (size < 18 || be(file + m + 11, 4) < 8) {
-                number = 3;
-                break;
-            }
-            snprintf(line, sizeof line, "%u %u %zu %08X\n", be(file + m + 5, 2), be(file + m + 7, 4), size - 18, be(file + m + 15, 4));
-            to = text(out, room, to, line);
-        }
-        at = m + 1 + size;
-    }
-    if (number == 20) at = 0;
-    if (number) to = begin;
-    snprintf(line, sizeof line, "answer %u %zu\n", number, number ? at : 0);
+    size_t at, to = text(out, room, 0, "instance number bytes type\n");
+    uint32_t number = walked(file, len, &at, 0, out, room, &to);
+    if (!number) walked(file, len, &at, 1, out, room, &to);
+    snprintf(line, sizeof line, "answer %u %zu\n", number, at);
     to = text(out, room, to, line);
     if (to > room) return refused(9, to, out, room, place, second);
     return done(to, place, second);

@@ -22,31 +22,31 @@ extern "C" {
 /* The second place is 0 where its column is empty. The last bit is the last one asked for; its byte is the one that it came
  * from: an FF, never the 00 behind it.
  *
- *   number                     meaning                                               place                      second place */
+ *   number                     meaning                                                    place                     second place */
 enum {
-    XT_DONE = 0,              /* done                                                 count written */
-    XT_NOT_A_PICTURE = 1,     /* does not begin FF D8                                 0 */
-    XT_SEGMENT = 2,           /* segment or marker broken, or no SOS                  where it was to begin */
-    XT_PACKET_HEAD = 3,       /* packet head broken                                   where its segment begins */
-    XT_NO_PACKET = 4,         /* no packet of this type and instance                  0 */
-    XT_DISAGREE = 5,          /* packets disagree on LBox                             0 */
-    XT_TWICE = 6,             /* a sequence number stands twice                       the smallest such */
-    XT_MISSING = 7,           /* a sequence number is missing                         smallest missing of 1..n */
-    XT_TOTAL = 8,             /* payload total is not LBox-8                          the total */
-    XT_SHORT = 9,             /* destination too short                                length needed */
-    XT_TABLE = 10,            /* code table bad                                       0 */
-    XT_RANGE = 11,            /* value out of range                                   first index */
-    XT_ENDED = 12,            /* data end early                                       block                      the data's length */
-    XT_MARKER = 13,           /* FF without 00 after it                               block                      where its FF stands */
-    XT_NO_CODE = 14,          /* 16 bits and no code                                  block                      the last bit's byte */
-    XT_CODE_UNUSED = 15,      /* code not used in refinement                          block                      the last bit's byte */
-    XT_NO_PLACE = 16,         /* no place left in the block                           block                      the last bit's byte */
-    XT_RUN = 17,              /* end run passes the last block                        block of its code          the last bit's byte */
-    XT_PADDING = 18,          /* padding not ones, or bytes left                      bytes read */
-    XT_CODE_LACKING = 19,     /* writer's table lacks a code                          the code's value */
-    XT_SETTING = 20,          /* setting or count out of range, or barred by a step   0 */
-    XT_LENGTH = 21,           /* a lent input's length is not what the counts ask     0 */
-    XT_QUANTISER = 22         /* quantiser entry not 1..255                           first index */
+    XT_DONE = 0,              /* done                                                      count written */
+    XT_NOT_A_PICTURE = 1,     /* does not begin FF D8                                      0 */
+    XT_SEGMENT = 2,           /* segment or marker broken, or no SOS                       where it was to begin */
+    XT_PACKET_HEAD = 3,       /* packet head broken                                        where its segment begins */
+    XT_NO_PACKET = 4,         /* no packet of this type and instance                       0 */
+    XT_DISAGREE = 5,          /* packets disagree on the box's length or its form          0 */
+    XT_TWICE = 6,             /* a sequence number stands twice                            the smallest such */
+    XT_MISSING = 7,           /* a sequence number is missing                              smallest missing of 1..n */
+    XT_TOTAL = 8,             /* payload total is not the stated length less the box head  the total */
+    XT_SHORT = 9,             /* destination too short                                     length needed */
+    XT_TABLE = 10,            /* code table bad                                            0 */
+    XT_RANGE = 11,            /* value out of range                                        first index */
+    XT_ENDED = 12,            /* data end early                                            block                     the data's length */
+    XT_MARKER = 13,           /* FF without 00 after it                                    block                     where its FF stands */
+    XT_NO_CODE = 14,          /* 16 bits and no code                                       block                     the last bit's byte */
+    XT_CODE_UNUSED = 15,      /* code not used in refinement                               block                     the last bit's byte */
+    XT_NO_PLACE = 16,         /* no place left in the block                                block                     the last bit's byte */
+    XT_RUN = 17,              /* end run passes the last block                             block of its code         the last bit's byte */
+    XT_PADDING = 18,          /* padding not ones, or bytes left                           bytes read */
+    XT_CODE_LACKING = 19,     /* writer's table lacks a code                               the code's value */
+    XT_SETTING = 20,          /* setting or count out of range, or barred by a step        0 */
+    XT_LENGTH = 21,           /* a lent input's length is not what the counts ask          0 */
+    XT_QUANTISER = 22         /* quantiser entry not 1..255                                first index */
 };
 
 /* A short sentence for a number. */
@@ -58,7 +58,7 @@ static inline const char *xt_meaning(uint32_t number)
         "a segment or marker is broken, or there is no SOS",
         "a packet's head is broken",
         "there is no packet of this type and instance",
-        "packets disagree on the box's length",
+        "packets disagree on the box's length or its form",
         "two packets claim the same sequence number",
         "a sequence number is missing",
         "the payloads do not add up to the box's length",
@@ -83,8 +83,8 @@ static inline const char *xt_meaning(uint32_t number)
 /* ---- boxes */
 
 /* C3: `type` is its four bytes as a number, LPTS is 0x4C505453. The bytes of one box, assembled from its packets in any file
- * order; in a file that can be walked through, boxes of another type or instance change nothing (D6). Takes 128 KiB of stack,
- * no other call takes as much. */
+ * order; in a file that can be walked through, boxes of another type or instance change nothing (D6). LBox 1 and an eight-byte
+ * length after the type (long boxes) are read too. Takes 128 KiB of stack, no other call takes as much. */
 uint32_t xt_box_bytes(const uint8_t *file, size_t file_len, uint32_t type, uint16_t instance,
                       uint8_t *destination, size_t destination_len, uint64_t *place, uint64_t *second);
 

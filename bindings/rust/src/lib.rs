@@ -20,7 +20,7 @@ const MEANINGS: [&str; 23] = [
     "a segment or marker is broken, or there is no SOS",
     "a packet's head is broken",
     "there is no packet of this type and instance",
-    "packets disagree on the box's length",
+    "packets disagree on the box's length or its form",
     "two packets claim the same sequence number",
     "a sequence number is missing",
     "the payloads do not add up to the box's length",
@@ -85,7 +85,7 @@ fn done(number: u32, place: u64, second: u64) -> Result<usize, Error> {
     }
 }
 
-/// The bytes of one box, assembled from its packets; `kind` is the type's four bytes. In a file that can be walked through, boxes of another type or instance change nothing.
+/// The bytes of one box, assembled from its packets; `kind` is the type's four bytes. In a file that can be walked through, boxes of another type or instance change nothing. LBox 1 and an eight-byte length after the type (long boxes) are read too.
 pub fn box_bytes(file: &[u8], kind: [u8; 4], instance: u16, destination: &mut [u8]) -> Result<usize, Error> {
     let (mut place, mut second) = (0, 0);
     // SAFETY: each pointer stands with its own slice's length, and the call writes only to the destination and the two places, which are apart.

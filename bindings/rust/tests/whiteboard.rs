@@ -1,4 +1,4 @@
-//! The whiteboard's readings (docs/RULES.md, S1 to S5, S7 and S8), practice beside live (S10) and grey (S11) through the Rust calls, what a preview owes, a round trip, and the byte that a refused plane names.
+//! The whiteboard's readings (docs/RULES.md, S1 to S5, S7 and S8), practice beside live (S10) and grey (S11) through the Rust calls, long boxes, what a preview owes, a round trip, and the byte that a refused plane names.
 use auhowipi::*;
 
 const LPTS: [u8; 4] = *b"LPTS";
@@ -47,15 +47,23 @@ fn two_packets_numbered_one() {
     assert_eq!(Error { number: 6, place: 1, second: 0 }.to_string(), "two packets claim the same sequence number (6, place 1)");
 }
 
-fn packet(instance: u16, number: u32, payload: &[u8]) -> Vec<u8> {
+fn short_packet(instance: u16, number: u32, lbox: u32, payload: &[u8]) -> Vec<u8> {
     let size = 18 + payload.len() as u16;
-    [&[0xFF, 0xEB][..], &size.to_be_bytes(), b"JP", &instance.to_be_bytes(), &number.to_be_bytes(), &12u32.to_be_bytes(), &LPTS, payload].concat()
+    [&[0xFF, 0xEB][..], &size.to_be_bytes(), b"JP", &instance.to_be_bytes(), &number.to_be_bytes(), &lbox.to_be_bytes(), &LPTS, payload].concat()
+}
+
+/// A packet of a box of four bytes.
+fn packet(instance: u16, number: u32, payload: &[u8]) -> Vec<u8> {
+    short_packet(instance, number, 12, payload)
+}
+
+fn file(segments: &[&[u8]]) -> Vec<u8> {
+    [&[0xFF, 0xD8][..], &segments.concat(), &[0xFF, 0xDA]].concat()
 }
 
 #[test]
 fn practice_beside_live() {
     let (first, second, practice, intruder) = (packet(1, 1, b"9."), packet(1, 2, b"58"), packet(2, 1, b"9.99"), packet(1, 1, b"9.99"));
-    let file = |segments: &[&[u8]]| [&[0xFF, 0xD8][..], &segments.concat(), &[0xFF, 0xDA]].concat();
     for segments in [&[&first[..], &second][..], &[&practice, &first, &second], &[&first, &practice, &second], &[&second, &first, &practice]] {
         let mut bytes = [46u8; 6];
         assert_eq!(box_bytes(&file(segments), LPTS, 1, &mut bytes), Ok(4));
@@ -66,6 +74,39 @@ fn practice_beside_live() {
     assert_eq!(&bytes, b"9.99..");
     assert_eq!(refused(box_bytes(&file(&[&first, &second, &intruder]), LPTS, 1, &mut bytes)), (6, 1, 0));
     assert_eq!(bytes, [0; 6]);
+}
+
+/// A packet in the long form: LBox 1, and the stated length behind the type.
+fn long_packet(number: u32, stated: u64, payload: &[u8]) -> Vec<u8> {
+    short_packet(1, number, 1, &[&stated.to_be_bytes(), payload].concat())
+}
+
+#[test]
+fn long_boxes() {
+    let (whole, first, second) = (long_packet(1, 20, b"9.58"), long_packet(1, 20, b"9."), long_packet(2, 20, b"58"));
+    for segments in [&[&packet(1, 1, b"9.58")[..]][..], &[&whole], &[&second, &first]] {
+        let mut bytes = [46u8; 6];
+        assert_eq!(box_bytes(&file(segments), LPTS, 1, &mut bytes), Ok(4));
+        assert_eq!(&bytes, b"9.58..");
+    }
+    let mut text = [0u8; 100];
+    let n = list_packets(&file(&[&second, &first]), &mut text).unwrap();
+    assert_eq!(&text[..n], b"instance number bytes type\n1 2 2 4C505453\n1 1 2 4C505453\nanswer 0 0\n");
+    // 5: two forms, each with the length of the box in it, or with equal numbers; two lengths
+    // 8: the largest length. 3: a length below 16; a segment of 25 bytes with LBox 1
+    for (segments, refusal) in [
+        (&[&first[..], &packet(1, 2, b"58")][..], (5, 0, 0)),
+        (&[&first, &short_packet(1, 2, 20, b"58")], (5, 0, 0)),
+        (&[&first, &long_packet(2, 20 + (1 << 32), b"58")], (5, 0, 0)),
+        (&[&long_packet(1, 12 + (1 << 32), b"9.58")], (8, 4, 0)),
+        (&[&long_packet(1, u64::MAX, b"9.58")], (8, 4, 0)),
+        (&[&long_packet(1, 15, b"9.58")], (3, 2, 0)),
+        (&[&whole, &short_packet(2, 1, 1, &[0; 7])], (3, 34, 0)),
+    ] {
+        let mut bytes = [46u8; 6];
+        assert_eq!(refused(box_bytes(&file(segments), LPTS, 1, &mut bytes)), refusal);
+        assert_eq!(bytes, [0; 6]);
+    }
 }
 
 const COUNTS: [u8; 16] = [0, 3, 0, 0, 0, 0, 0, 0, 0, 0, 0, 0, 0, 0, 0, 0];
