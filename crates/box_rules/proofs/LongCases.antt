@@ -1,6 +1,7 @@
 -- Long boxes (P25, A5), worked out by hand on both sides of each edge, and computed: a head, a segment, a box, the listing, and the bytes that a writer lays out.
 use Prim.Native.Nat.{ℕ}
 use mathlib.Core.Path.{_≡_, refl}
+use mathlib.Core.Logic.{inl, inr}
 use mathlib.Core.List.{List, [], _∷_, _++_}
 use native.Mathlib.Omega.{arith}
 use Rattle.answers.specs.Verdict.{Verdict, given, refused, refusal}
@@ -12,7 +13,7 @@ use Rattle.box_rules.specs.Packets.{Packet, packetsIn, packets, isMine, 
 use Rattle.box_rules.specs.Numbers.{numbers, count, least, firstTwice, missingFrom, firstMissing}
 use Rattle.box_rules.specs.Box.{alike, agree, contents, total, numbered, joinedFrom, joined, assembled, assemble, boxBytes}
 use Rattle.box_rules.specs.Text.{line, lines, header, answer, listing, decIn, dec, glyph, hex}
-use Rattle.box_rules.specs.Layout.{packed, other, two, four, eight, headed, segment, inner, bytesOf, allBytes, laidOut, longer, lengthened, InLongForm, empty, longer-there, same-there}
+use Rattle.box_rules.specs.Layout.{packed, other, two, four, eight, headed, segment, inner, bytesOf, allBytes, laidOut, Boxed, longer, lengthened, InLongForm, empty, longer-there, same-there}
 
 -- a packet of LPTS, 1 up to its type: the length of its segment, its number and its LBox
 abbrev typed : ℕ → ℕ → ℕ → List ℕ → List ℕ
@@ -159,6 +160,10 @@ stranger-of kind instance heading = record { head = record { instance = instance
 pub lengthens : lengthened (holding 22 8) ≡ holding 30 16
 unfolding longer lengthened
 lengthens = refl
+
+-- "LBox 8 with no payload is a box of length 0", and so is the long length 16: both are sound
+pub sound-at-least : Boxed (holding 8 8) × Boxed (holding 16 16)
+sound-at-least = (record { form = inl refl; least = omega arith }, record { form = inr refl; least = omega arith })
 
 -- with strangers between: another instance in the short form, another type in the long form, and no packet
 pub in-both-forms : InLongForm 5 7
