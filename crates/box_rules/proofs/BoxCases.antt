@@ -13,22 +13,22 @@ use Rattle.box_rules.specs.Box.{alike, agree, contents, total, numbered,
 use Rattle.box_rules.specs.Order.{swap, counting, payloads, Makes, HandedOut}
 
 -- a packet of LPTS, 1 in a segment of a length, with a number, an LBox, and its payload in front of what follows
-abbrev packet : ℕ → ℕ → ℕ → List ℕ → List ℕ
+abbrev pub packet : ℕ → ℕ → ℕ → List ℕ → List ℕ
 packet len q lbox r =
     0xFF ∷ 0xEB ∷ 0x00 ∷ len ∷ 0x4A ∷ 0x50 ∷ 0x00 ∷ 0x01 ∷ 0 ∷ 0 ∷ 0 ∷ q ∷ 0 ∷ 0 ∷ 0 ∷ lbox ∷ 0x4C ∷ 0x50 ∷ 0x54 ∷ 0x53 ∷ r
 
 -- a file of these segments
-abbrev file : List ℕ → List ℕ
+abbrev pub file : List ℕ → List ℕ
 file r = 0xFF ∷ 0xD8 ∷ r
 
-abbrev end : List ℕ
+abbrev pub end : List ℕ
 end = 0xFF ∷ 0xDA ∷ []
 
 -- the answer for LPTS and an instance, in so much room
-abbrev asked : List ℕ → ℕ → ℕ → Verdict ℕ
+abbrev pub asked : List ℕ → ℕ → ℕ → Verdict ℕ
 asked bytes instance room = boxBytes bytes 0x4C505453 instance room
 
-abbrev no : ℕ → ℕ → Verdict ℕ
+abbrev pub no : ℕ → ℕ → Verdict ℕ
 no number place = refused (refusal number place)
 
 abbrev one : List ℕ

@@ -5,11 +5,9 @@ use mathlib.Core.Logic.{inr}
 use mathlib.Core.List.{List, [], _∷_, map}
 use mathlib.Core.Bool.{true}
 use native.Mathlib.Omega.{arith}
-use borrow.Author.Tests.{eq-eqb}
-use Rattle.box_rules.specs.declared.Head.{Head}
 use Rattle.box_rules.specs.Packets.{Packet, isMine, mine}
 use Rattle.box_rules.specs.Layout.{Part, packetsOf, Boxed, AllSound, longer, lengthened, InLongForm, empty, longer-there, same-there}
-use Rattle.box_rules.proofs.Strangers.{past}
+use Rattle.box_rules.proofs.Strangers.{is-mine, past}
 
 -- packets of the short form
 abbrev pub AllShort : List Packet → Type 0
@@ -21,10 +19,6 @@ unfolding lengthened longer
 boxed-longer p s b = let l = b .least in record { form = inr refl; least = omega arith }
 
 module _ (kind instance : ℕ) where
-  its-own : (h : Head) → h .kind ≡ kind → h .instance ≡ instance → isMine kind instance h ≡ true
-  unfolding isMine
-  its-own h k i = rw (eq-eqb (h .kind) kind k, eq-eqb (h .instance) instance i)
-
   -- the one file has its packets in the short form, the other has the same ones lengthened, and is sound too
   pub record Told (parts parts′ : List Part) : Type 0 where
     pub short : AllShort (mine kind instance (packetsOf parts))
@@ -36,8 +30,8 @@ module _ (kind instance : ℕ) where
   told s empty = record { short = tt; long = refl; sound = tt }
   told s (longer-there {p} fill fill′ k i e h) =
       let w = told (s .1) h in
-      let z : isMine kind instance (p .head) ≡ true = its-own (p .head) k i in
-      let z′ : isMine kind instance (longer (p .head)) ≡ true = its-own (longer (p .head)) k i in
+      let z : isMine kind instance (p .head) ≡ true = is-mine kind instance (p .head) k i in
+      let z′ : isMine kind instance (longer (p .head)) ≡ true = is-mine kind instance (longer (p .head)) k i in
       record { short = rw z (e, w .short); long = rw (z, z′, w .long); sound = (boxed-longer p e (s .0), w .sound) }
   told s (same-there {x} {a} {b} g h) =
       let w = told (s .1) h in

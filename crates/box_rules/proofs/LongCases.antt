@@ -4,7 +4,7 @@ use mathlib.Core.Path.{_≡_, refl}
 use mathlib.Core.Logic.{inl, inr}
 use mathlib.Core.List.{List, [], _∷_, _++_}
 use native.Mathlib.Omega.{arith}
-use Rattle.answers.specs.Verdict.{Verdict, given, refused, refusal}
+use Rattle.answers.specs.Verdict.{Verdict, given, refusal}
 use Rattle.box_rules.specs.declared.Head.{Head}
 use Rattle.box_rules.specs.declared.Step.{Step}
 use Rattle.box_rules.specs.declared.Step.the-variants.{Meet, Broken}
@@ -13,42 +13,28 @@ use Rattle.box_rules.specs.Packets.{Packet, packetsIn, packets, isMine, 
 use Rattle.box_rules.specs.Numbers.{numbers, count, least, firstTwice, missingFrom, firstMissing}
 use Rattle.box_rules.specs.Box.{alike, agree, contents, total, numbered, joinedFrom, joined, assembled, assemble, boxBytes}
 use Rattle.box_rules.specs.Text.{line, lines, header, answer, listing, decIn, dec, glyph, hex}
+use Rattle.box_rules.proofs.WalkCases.{first}
+use Rattle.box_rules.proofs.BoxCases.{packet, file, end, asked, no}
 use Rattle.box_rules.specs.Layout.{packed, other, two, four, eight, headed, segment, inner, bytesOf, allBytes, laidOut, Boxed, longer, lengthened, InLongForm, empty, longer-there, same-there}
 
--- a packet of LPTS, 1 up to its type: the length of its segment, its number and its LBox
-abbrev typed : ℕ → ℕ → ℕ → List ℕ → List ℕ
-typed len q lbox r = 0xFF ∷ 0xEB ∷ 0x00 ∷ len ∷ 0x4A ∷ 0x50 ∷ 0x00 ∷ 0x01 ∷ 0 ∷ 0 ∷ 0 ∷ q ∷ 0 ∷ 0 ∷ 0 ∷ lbox ∷ 0x4C ∷ 0x50 ∷ 0x54 ∷ 0x53 ∷ r
-
--- eight bytes behind its type: so often 2^32, and so much more
+-- eight bytes behind the type of a packet: so often 2^32, and so much more
 abbrev lasting : ℕ → ℕ → List ℕ → List ℕ
 lasting high low r = 0 ∷ 0 ∷ 0 ∷ high ∷ 0 ∷ 0 ∷ 0 ∷ low ∷ r
 
 -- a packet with LBox 1 and that length
 abbrev long : ℕ → ℕ → ℕ → ℕ → List ℕ → List ℕ
-long len q high low r = typed len q 1 (lasting high low r)
+long len q high low r = packet len q 1 (lasting high low r)
 
 -- the largest length of eight bytes
 abbrev largest : List ℕ → List ℕ
 largest r = 0xFF ∷ 0xFF ∷ 0xFF ∷ 0xFF ∷ 0xFF ∷ 0xFF ∷ 0xFF ∷ 0xFF ∷ r
 
-abbrev end : List ℕ
-end = 0xFF ∷ 0xDA ∷ []
-
--- a file of these bytes behind FF D8; what stands at its first segment; the answer for LPTS and an instance, in so much room
-abbrev file : List ℕ → List ℕ
-file r = 0xFF ∷ 0xD8 ∷ r
-
-abbrev first : List ℕ → Step
-first r = stepAt (file r) 2
-
-abbrev asked : List ℕ → ℕ → ℕ → Verdict ℕ
-asked r instance room = boxBytes (file r) 0x4C505453 instance room
+-- the answer for LPTS and an instance, in so much room, of a file of these segments; and a refusal at its first one
+abbrev box : List ℕ → ℕ → ℕ → Verdict ℕ
+box segments instance room = asked (file segments) instance room
 
 abbrev broken : ℕ → Step
 broken number = Broken (refusal number 2)
-
-abbrev no : ℕ → ℕ → Verdict ℕ
-no number place = refused (refusal number place)
 
 -- packet 3 of LPTS, 1
 abbrev third : ℕ → ℕ → Head
@@ -76,22 +62,22 @@ pub lengths : (first (long 26 3 0 16 []) ≡ Meet (third 16 16) 30 0 30)
     × (first (long 26 3 0 0 []) ≡ broken 3)
     × (first (long 26 3 1 0 []) ≡ Meet (third 4294967296 16) 30 0 30)
     × (first (long 26 3 1 15 []) ≡ Meet (third 4294967311 16) 30 0 30)
-    × (first (typed 26 3 1 (largest [])) ≡ Meet (third 18446744073709551615 16) 30 0 30)
+    × (first (packet 26 3 1 (largest [])) ≡ Meet (third 18446744073709551615 16) 30 0 30)
     × (first (long 29 3 0 19 (0xAA ∷ 0xBB ∷ 0xCC ∷ [])) ≡ Meet (third 19 16) 30 3 33)
     × (first (long 27 3 0 17 []) ≡ broken 2)
     × (first (long 27 3 0 15 []) ≡ broken 2)
-    × (first (typed 18 3 1 []) ≡ broken 3)
+    × (first (packet 18 3 1 []) ≡ broken 3)
     × (first (0xFF ∷ 0xFF ∷ long 27 3 0 20 (0xAA ∷ [])) ≡ Meet (third 20 16) 32 1 33)
     × (first (0xFF ∷ 0xFF ∷ long 25 3 0 16 (0xAA ∷ [])) ≡ broken 3)
 unfolding be16 be32 be64 headAt longHeadAt ones barred tagged packetAt wholeAt sizedAt markedAt stepAt
 lengths = (refl, refl, refl, refl, refl, refl, refl, refl, refl, refl, refl, refl, refl, refl, refl, refl)
 
 -- the form is told by LBox alone: 0 and 2 to 7 give 3 whatever stands behind the type, and from 8 on it is payload; 257 is not 1
-pub forms : (first (typed 26 3 0 (lasting 0 16 [])) ≡ broken 3)
-    × (first (typed 26 3 2 (lasting 0 16 [])) ≡ broken 3)
-    × (first (typed 26 3 7 (lasting 0 16 [])) ≡ broken 3)
-    × (first (typed 26 3 8 (lasting 0 16 [])) ≡ Meet (third 8 8) 22 8 30)
-    × (first (typed 26 3 16 (lasting 0 16 [])) ≡ Meet (third 16 8) 22 8 30)
+pub forms : (first (packet 26 3 0 (lasting 0 16 [])) ≡ broken 3)
+    × (first (packet 26 3 2 (lasting 0 16 [])) ≡ broken 3)
+    × (first (packet 26 3 7 (lasting 0 16 [])) ≡ broken 3)
+    × (first (packet 26 3 8 (lasting 0 16 [])) ≡ Meet (third 8 8) 22 8 30)
+    × (first (packet 26 3 16 (lasting 0 16 [])) ≡ Meet (third 16 8) 22 8 30)
     × (first (0xFF ∷ 0xEB ∷ 0 ∷ 18 ∷ 0x4A ∷ 0x50 ∷ 0 ∷ 1 ∷ 0 ∷ 0 ∷ 0 ∷ 3 ∷ 0 ∷ 0 ∷ 1 ∷ 1 ∷ 0x4C ∷ 0x50 ∷ 0x54 ∷ 0x53 ∷ []) ≡ Meet (third 257 8) 22 0 22)
 unfolding be16 be32 be64 headAt longHeadAt ones barred tagged packetAt wholeAt sizedAt markedAt stepAt
 forms = (refl, refl, refl, refl, refl, refl)
@@ -105,32 +91,32 @@ three = given (0xAA ∷ 0xBB ∷ 0xCC ∷ [])
 
 -- a long box in one packet and in two, out of order, with a stranger of the other form; the same bytes in the short form. "the stated length less the box head":
 -- 16 with no payload is a box of length 0; 17 with none, and 2^32 or 2^64 - 1 with any, is 8 with the total. Room.
-pub boxes : (asked (long 29 1 0 19 (0xAA ∷ 0xBB ∷ 0xCC ∷ end)) 1 3 ≡ three)
-    × (asked (typed 21 1 11 (0xAA ∷ 0xBB ∷ 0xCC ∷ end)) 1 3 ≡ three)
-    × (asked (long 28 2 0 19 (0xBB ∷ 0xCC ∷ stranger (long 27 1 0 19 (0xAA ∷ end)))) 1 3 ≡ three)
-    × (asked (typed 20 2 11 (0xBB ∷ 0xCC ∷ stranger (typed 19 1 11 (0xAA ∷ end)))) 1 3 ≡ three)
-    × (asked (long 28 2 0 19 (0xBB ∷ 0xCC ∷ stranger (long 27 1 0 19 (0xAA ∷ end)))) 2 3 ≡ given (0xDD ∷ []))
-    × (asked (long 26 1 0 16 end) 1 0 ≡ given [])
-    × (asked (long 26 1 0 17 end) 1 0 ≡ no 8 0)
-    × (asked (long 27 1 0 16 (0xAA ∷ end)) 1 1 ≡ no 8 1)
-    × (asked (long 27 1 1 17 (0xAA ∷ end)) 1 1 ≡ no 8 1)
-    × (asked (typed 28 1 1 (largest (0xAA ∷ 0xBB ∷ end))) 1 9 ≡ no 8 2)
-    × (asked (typed 26 1 1 (largest end)) 1 9 ≡ no 8 0)
-    × (asked (long 29 1 0 19 (0xAA ∷ 0xBB ∷ 0xCC ∷ end)) 1 2 ≡ no 9 3)
+pub boxes : (box (long 29 1 0 19 (0xAA ∷ 0xBB ∷ 0xCC ∷ end)) 1 3 ≡ three)
+    × (box (packet 21 1 11 (0xAA ∷ 0xBB ∷ 0xCC ∷ end)) 1 3 ≡ three)
+    × (box (long 28 2 0 19 (0xBB ∷ 0xCC ∷ stranger (long 27 1 0 19 (0xAA ∷ end)))) 1 3 ≡ three)
+    × (box (packet 20 2 11 (0xBB ∷ 0xCC ∷ stranger (packet 19 1 11 (0xAA ∷ end)))) 1 3 ≡ three)
+    × (box (long 28 2 0 19 (0xBB ∷ 0xCC ∷ stranger (long 27 1 0 19 (0xAA ∷ end)))) 2 3 ≡ given (0xDD ∷ []))
+    × (box (long 26 1 0 16 end) 1 0 ≡ given [])
+    × (box (long 26 1 0 17 end) 1 0 ≡ no 8 0)
+    × (box (long 27 1 0 16 (0xAA ∷ end)) 1 1 ≡ no 8 1)
+    × (box (long 27 1 1 17 (0xAA ∷ end)) 1 1 ≡ no 8 1)
+    × (box (packet 28 1 1 (largest (0xAA ∷ 0xBB ∷ end))) 1 9 ≡ no 8 2)
+    × (box (packet 26 1 1 (largest end)) 1 9 ≡ no 8 0)
+    × (box (long 29 1 0 19 (0xAA ∷ 0xBB ∷ 0xCC ∷ end)) 1 2 ≡ no 9 3)
 unfolding be16 be32 be64 headAt longHeadAt ones barred tagged packetAt wholeAt sizedAt markedAt stepAt stepsIn stepsFrom begins walk ending packetsIn packets isMine mine numbers count least firstTwice missingFrom firstMissing alike agree contents total numbered joinedFrom joined assembled assemble boxBytes
 boxes = (refl, refl, refl, refl, refl, refl, refl, refl, refl, refl, refl, refl)
 
 -- "Packets of one box must agree on the length and on which form they use": "5 also covers mixed forms", whether the stated numbers are one or the contents' lengths are;
 -- high bytes count. 3 is met by whoever asks; 5 stands before 6, 7, 8.
-pub disagreeing : (asked (long 27 1 0 18 (0xAA ∷ typed 19 2 18 (0xBB ∷ end))) 1 9 ≡ no 5 0)
-    × (asked (typed 19 2 18 (0xBB ∷ long 27 1 0 18 (0xAA ∷ end))) 1 9 ≡ no 5 0)
-    × (asked (long 27 1 0 18 (0xAA ∷ typed 19 2 10 (0xBB ∷ end))) 1 9 ≡ no 5 0)
-    × (asked (long 27 1 0 18 (0xAA ∷ long 27 2 0 19 (0xBB ∷ end))) 1 9 ≡ no 5 0)
-    × (asked (long 27 1 0 18 (0xAA ∷ long 27 2 1 18 (0xBB ∷ end))) 1 9 ≡ no 5 0)
-    × (asked (long 27 3 0 18 (0xAA ∷ typed 19 3 18 (0xBB ∷ end))) 1 9 ≡ no 5 0)
-    × (asked (stranger (long 25 1 0 16 (0xAA ∷ end))) 2 9 ≡ no 3 23)
-    × (asked (stranger (long 26 1 0 15 end)) 2 9 ≡ no 3 23)
-    × (asked (stranger (long 26 1 0 16 end)) 2 9 ≡ given (0xDD ∷ []))
+pub disagreeing : (box (long 27 1 0 18 (0xAA ∷ packet 19 2 18 (0xBB ∷ end))) 1 9 ≡ no 5 0)
+    × (box (packet 19 2 18 (0xBB ∷ long 27 1 0 18 (0xAA ∷ end))) 1 9 ≡ no 5 0)
+    × (box (long 27 1 0 18 (0xAA ∷ packet 19 2 10 (0xBB ∷ end))) 1 9 ≡ no 5 0)
+    × (box (long 27 1 0 18 (0xAA ∷ long 27 2 0 19 (0xBB ∷ end))) 1 9 ≡ no 5 0)
+    × (box (long 27 1 0 18 (0xAA ∷ long 27 2 1 18 (0xBB ∷ end))) 1 9 ≡ no 5 0)
+    × (box (long 27 3 0 18 (0xAA ∷ packet 19 3 18 (0xBB ∷ end))) 1 9 ≡ no 5 0)
+    × (box (stranger (long 25 1 0 16 (0xAA ∷ end))) 2 9 ≡ no 3 23)
+    × (box (stranger (long 26 1 0 15 end)) 2 9 ≡ no 3 23)
+    × (box (stranger (long 26 1 0 16 end)) 2 9 ≡ given (0xDD ∷ []))
 unfolding be16 be32 be64 headAt longHeadAt ones barred tagged packetAt wholeAt sizedAt markedAt stepAt stepsIn stepsFrom begins walk ending packetsIn packets isMine mine numbers count least firstTwice missingFrom firstMissing alike agree contents total numbered joinedFrom joined assembled assemble boxBytes
 disagreeing = (refl, refl, refl, refl, refl, refl, refl, refl, refl)
 

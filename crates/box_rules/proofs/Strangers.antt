@@ -4,7 +4,7 @@ use mathlib.Core.Path.{_≡_, refl}
 use mathlib.Core.Logic.{⊎-elim}
 use mathlib.Core.List.{List, [], _∷_}
 use mathlib.Core.Bool.{Bool, true, false, cond}
-use borrow.Author.Tests.{eqb-true}
+use borrow.Author.Tests.{eq-eqb, eqb-true}
 use lib.Dec.{eqb}
 use Rattle.laws.proofs.Choices.{either}
 use Rattle.box_rules.specs.declared.Head.{Head}
@@ -25,6 +25,11 @@ module _ (kind instance : ℕ) where
       (λ k. rw k (⊎-elim (λ i. absurd (s (eqb-true (h .kind) kind k) (eqb-true (h .instance) instance i))) (λ i. i) (either (eqb (h .instance) instance))))
       (λ k. rw k)
       (either (eqb (h .kind) kind))
+
+  -- this type and instance
+  pub is-mine : (h : Head) → h .kind ≡ kind → h .instance ≡ instance → isMine kind instance h ≡ true
+  unfolding isMine
+  is-mine h k i = rw (eq-eqb (h .kind) kind k, eq-eqb (h .instance) instance i)
 
   -- the packets of this type and instance among the segments of a file
   abbrev own : List Part → List Packet

@@ -16,7 +16,7 @@ use Rattle.box_rules.specs.Layout.{packed, other, two, four, headed, seg
 abbrev begun : List ℕ → List ℕ
 begun r = 0xFF ∷ 0xD8 ∷ r
 
-abbrev first : List ℕ → Step
+abbrev pub first : List ℕ → Step
 first r = stepAt (begun r) 2
 
 abbrev no : ℕ → ℕ → Step
