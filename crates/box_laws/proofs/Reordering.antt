@@ -185,9 +185,14 @@ same-assemble room [] (q ∷ s) h = absurd (omega (arith, same-length h))
 same-assemble room (p ∷ r) [] h = absurd (omega (arith, same-length h))
 same-assemble room (p ∷ r) (q ∷ s) h = firsts-kept room p q r s h
 
--- "File order doesn't matter": the answer is seen only through how the walk ends and through the packets of the type and instance, in any order
+-- the answer is seen only through how the walk ends and through what assembly makes of the packets of the type and instance
+pub same-verdict : (file file′ : List ℕ) (kind instance room : ℕ) → ending (walk file) ≡ ending (walk file′)
+    → assemble room (mine kind instance (packets file)) ≡ assemble room (mine kind instance (packets file′)) → boxBytes file kind instance room ≡ boxBytes file′ kind instance room
+unfolding boxBytes
+same-verdict file file′ kind instance room = ap₂ (λ (o : Outcome) (v : Verdict ℕ). afterWalk o v)
+
+-- "File order doesn't matter": these packets may stand in any order
 pub same-answer : (file file′ : List ℕ) (kind instance room : ℕ) → ending (walk file) ≡ ending (walk file′)
     → Reordered (mine kind instance (packets file)) (mine kind instance (packets file′)) → boxBytes file kind instance room ≡ boxBytes file′ kind instance room
-unfolding boxBytes
 same-answer file file′ kind instance room e h =
-    ap₂ (λ (o : Outcome) (v : Verdict ℕ). afterWalk o v) e (same-assemble room (mine kind instance (packets file)) (mine kind instance (packets file′)) h)
+    same-verdict file file′ kind instance room e (same-assemble room (mine kind instance (packets file)) (mine kind instance (packets file′)) h)

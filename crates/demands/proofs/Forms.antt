@@ -1,16 +1,16 @@
 -- A box says the same in either form. Assumes nothing.
-use mathlib.Core.Path.{_≡_, refl, ap₂, sym, subst, _∙_}
+use mathlib.Core.Path.{_≡_, refl, sym, subst, _∙_}
 use mathlib.Core.List.{List, [], _∷_}
 use Prim.Native.Nat.{ℕ}
 use native.Mathlib.Omega.{arith}
-use Rattle.answers.specs.Verdict.{Verdict, Meets}
-use Rattle.answers.specs.declared.Outcome.{Outcome}
+use Rattle.answers.specs.Verdict.{Meets}
 use Rattle.box_rules.specs.Walk.{be16, be32, be64, headAt, longHeadAt, ones, barred, tagged, packetAt, wholeAt, sizedAt, markedAt, stepAt, stepsIn, stepsFrom, begins, walk, ending}
 use Rattle.box_rules.specs.Packets.{packetsIn, packets, isMine, mine}
 use Rattle.box_rules.specs.Numbers.{numbers, count, least, firstTwice, missingFrom, firstMissing}
-use Rattle.box_rules.specs.Box.{alike, agree, contents, total, numbered, joinedFrom, joined, assembled, assemble, afterWalk, boxBytes}
+use Rattle.box_rules.specs.Box.{alike, agree, contents, total, numbered, joinedFrom, joined, assembled, assemble, boxBytes}
 use Rattle.box_rules.specs.Layout.{Part, packed, two, four, eight, segment, headed, inner, bytesOf, allBytes, laidOut, packetsOf, AllSound, longer, lengthened, InLongForm, empty, longer-there, same-there}
 use Rattle.box_rules.proofs.Lengthened.{told}
+use Rattle.box_laws.proofs.Reordering.{same-verdict}
 use Rattle.box_laws.proofs.Forms.{assemble-longer}
 use Rattle.box_laws.proofs.Written.{laid-out}
 use Rattle.demands.specs.Cases.{resultOf, lpts}
@@ -21,7 +21,6 @@ use Rattle.demands.proofs.Practice.{by-verdict, still, one, another, pr
 -- ---- the law
 
 pub either-form : EitherForm
-unfolding boxBytes
 either-form kind instance parts parts′ fill fill′ behind behind′ s h =
     let file : List ℕ = laidOut parts fill behind in
     let file′ : List ℕ = laidOut parts′ fill′ behind′ in
@@ -29,7 +28,7 @@ either-form kind instance parts parts′ fill fill′ behind behind′ s h =
     let a = laid-out parts fill behind s in
     let b = laid-out parts′ fill′ behind′ (w .sound) in
     by-verdict kind instance file file′ λ room.
-    ap₂ (λ (o : Outcome) (v : Verdict ℕ). afterWalk o v) (a .1 ∙ sym (b .1))
+    same-verdict file file′ kind instance room (a .1 ∙ sym (b .1))
     (rw (a .0, b .0, w .long) (sym (assemble-longer room (mine kind instance (packetsOf parts)) (w .short))))
 
 -- ---- the pictures

@@ -78,7 +78,7 @@ by-strangers = practice-apart .strangers lpts 1
 
 -- ---- the last picture as a writer lays it out
 
-abbrev pub holding : ℕ → ℕ → ℕ → ℕ → List ℕ → Packet
+abbrev holding : ℕ → ℕ → ℕ → ℕ → List ℕ → Packet
 holding kind instance number stated payload = record { head = record { instance = instance; number = number; stated = stated; heading = 8; kind = kind }; payload = payload }
 
 abbrev pub one : Packet
