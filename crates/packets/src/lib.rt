@@ -40,7 +40,7 @@ fn marked_here(file: &[u8], at: usize) -> bool
     file[at + 5] == 80
 }
 
-// A quick look at the usual case: the length of the segment where a whole packet begins at a position with no fill. 0 says nothing.
+// A quick look at the usual case: the length of the segment where a whole packet in the short form begins at a position with no fill. 0 says nothing.
 fn packet_here(file: &[u8], at: usize) -> usize
     ensures { λ r. ⌜ (0 < r → Packed (now (file .entry)) at r) ⌝ }
 {
