@@ -1,10 +1,11 @@
 #!/usr/bin/env python3
 """boxes.py STDIN STDOUT: makes the vectors of boxes that crates/box_vectors runs and what it must print: files of both forms, in order, shuffled, with several
 instances, strangers, fill, broken heads, damage and cuts, by the second reading of the rules in tools/box_check.py, the bundled picture of the reference software, and pictures
-with practice beside live, held to the answer of the live one. Long boxes are held to the answer of the short one with the same bytes, and at their edges to answers worked out by hand.
+with practice beside live, held to the answer of the live one. Long boxes, the picture's among them (longer.py), are held to the answer of the short one with the same bytes, and at their edges to answers worked out by hand.
 A record is type, instance, room, the file, and the number, place and bytes expected; the second place is 0 in each answer, and has no column."""
 import os, random, struct, sys
 from fields import lent, numbers, write
+from longer import longer
 
 HERE = os.path.dirname(os.path.abspath(__file__))
 ROOT = os.path.dirname(os.path.dirname(HERE))
@@ -218,6 +219,8 @@ def main():
     picture = open(os.path.join(ROOT, 'pictures', 'finish.jpg'), 'rb').read()
     record('the bundled picture', picture, b'TONE', 1, 9000)
     record('the bundled picture', picture, b'FINE', 3, 9000)
+    record('the bundled picture in the long form', longer(picture), b'TONE', 1, 9000, picture)
+    record('the bundled picture in the long form', longer(picture), b'FINE', 3, 9000, picture)
     practice_beside_live()
     write(records, sys.argv[1], sys.argv[2])
 
