@@ -53,17 +53,35 @@ def record(group, kind, plane, blocks, room, values, answer, counts=b'', codes=b
     records.append((group, body + numbers(number, place, second) + expected))
 
 
-def trip(group, plane, blocks, new, data, table=None):
-    """These values are written as these bytes, and the bytes over the halves are read as these values."""
+def of_01(plane, blocks, values, table=None):
+    """The plane by the rules of 01, which write a fourth one too."""
+    return write_ac(plane, blocks, *table, values, 10 ** 6, retired=()) if table else write_dc(plane, blocks, values, 10 ** 6, retired=())
+
+
+def both_ways(plane, blocks, new, data, table=None):
+    """These values are these bytes by the rules of 01, and the bytes over the halves are read as these values. What our writer answers: the bytes, or that level 4 is retired."""
     if table:
-        old = [half(v) for v in new]
-        assert read_ac(plane, blocks, *table, data, old, len(old)) == given(new) and write_ac(plane, blocks, *table, new, 10 ** 6) == given(data)
+        read = read_ac(plane, blocks, *table, data, [half(v) for v in new], len(new))
+        written = write_ac(plane, blocks, *table, new, len(data))
     else:
-        old = [v // 2 for v in new]
-        assert read_dc(plane, blocks, data, old, blocks) == given(new) and write_dc(plane, blocks, new, 10 ** 6) == given(data)
+        read = read_dc(plane, blocks, data, [v // 2 for v in new], len(new))
+        written = write_dc(plane, blocks, new, len(data))
+    assert read == given(new) and of_01(plane, blocks, new, table) == given(data)
+    assert written == (refused(28, 0) if plane == 4 else given(data))
+    return written
+
+
+def named(group, plane, others=''):
+    """Fourth planes stand in groups of their own."""
+    return group + (', the fourth: read, and not written' if plane == 4 else others)
+
+
+def trip(group, plane, blocks, new, data, table=None):
+    """A record both ways ends with what writing answers; reading gives the values."""
+    number, place, second, _ = both_ways(plane, blocks, new, data, table)
     counts, codes = table or (b'', b'')
     body = struct.pack('<BIII', TRIP_AC if table else TRIP_DC, plane, blocks, len(data)) + lent(counts) + lent(codes) + lent(data) + sparse(new)
-    records.append((group, body + numbers(0, 0, 0)))
+    records.append((named(group, plane), body + numbers(number, place, second)))
 
 
 # ---- pictures
@@ -82,6 +100,11 @@ def wavy(depth, noise, seed):
     rnd = random.Random(seed)
     unit = 1 << (depth - 8)
     return lambda x, y: unit * (128 + 50 * math.sin(x / 7) + 40 * math.cos(y / 5) + rnd.uniform(-noise, noise))
+
+
+def built():
+    """The program behind `coefficients`."""
+    subprocess.run(['gcc', '-O1', '-o', os.path.join(TMP, 'coefficients'), os.path.join(HERE, 'coefficients.c'), '-ljpeg'], check=True)
 
 
 def coefficients(jpeg):
@@ -118,8 +141,8 @@ def scans(jpeg):
 
 # ---- groups
 
-def from_libjpeg(width, height, planes, quality, picture):
-    """A progressive picture: base and refinement scans, values before and after each from libjpeg's coefficient calls."""
+def libjpeg_planes(width, height, planes, quality, picture):
+    """The refinement scans of a progressive picture: plane, blocks, values before and behind it from libjpeg's coefficient calls, bytes, and the AC table."""
     script = ''.join(f'0: 0-0, {a}, {b};\n0: 1-63, {a}, {b};\n' for a, b in [(0, planes)] + [(l, l - 1) for l in range(planes, 0, -1)])
     names = [os.path.join(TMP, n) for n in ('scans.txt', 'p.jpg')]
     with open(names[0], 'w') as f:
@@ -127,28 +150,35 @@ def from_libjpeg(width, height, planes, quality, picture):
     source = grey('p.pgm', width, height, 8, picture)
     subprocess.run(['cjpeg', '-quality', str(quality), '-grayscale', '-optimize', '-scans', names[0], '-outfile', names[1], source], check=True)
     jpeg = open(names[1], 'rb').read()
-    different = 0
     for start, data, end, first, high, low, table in scans(jpeg):
         if high == 0:
             continue
         before, after = coefficients(jpeg[:start] + b'\xff\xd9'), coefficients(jpeg[:end] + b'\xff\xd9')
-        blocks, plane, bytes_ = len(before), planes - low, jpeg[data:end]
         if first == 0:
-            old, new = [b[0] >> high for b in before], [b[0] >> low for b in after]
+            old, new, table = [b[0] >> high for b in before], [b[0] >> low for b in after], None
             assert old == [v // 2 for v in new]
-            trip('DC planes of libjpeg', plane, blocks, new, bytes_)
         else:
             level = lambda list_, shift: [(abs(v) >> shift) * (1 if v > 0 else -1) for b in list_ for v in b[1:]]
             old, new = level(before, high), level(after, low)
-            assert old == [half(v) for v in new] and read_ac(plane, blocks, *table, bytes_, old, 63 * blocks) == given(new)
-            ours = write_ac(plane, blocks, *table, new, 10 ** 6)
-            if ours == given(bytes_):
-                trip('AC planes of libjpeg', plane, blocks, new, bytes_, table)
-            else:
-                different += 1
-                print(f'  plane {plane} of {blocks} blocks: libjpeg wrote {len(bytes_)} bytes, the longest end runs give (number, place) {ours[:2]}')
-                record('AC planes of libjpeg that end a run early, read, and written by the rules', READ_AC, plane, blocks, 63 * blocks, old, given(new), *table, data=bytes_)
-                record('AC planes of libjpeg that end a run early, read, and written by the rules', WRITE_AC, plane, blocks, 100000, new, ours, *table)
+            assert old == [half(v) for v in new]
+        yield planes - low, len(before), old, new, jpeg[data:end], table
+
+
+def from_libjpeg(width, height, planes, quality, picture):
+    """How many planes are not those of the longest end runs."""
+    different = 0
+    for plane, blocks, old, new, bytes_, table in libjpeg_planes(width, height, planes, quality, picture):
+        longest = of_01(plane, blocks, new, table)
+        if not table:
+            trip('DC planes of libjpeg', plane, blocks, new, bytes_)
+        elif longest == given(bytes_):
+            trip('AC planes of libjpeg', plane, blocks, new, bytes_, table)
+        else:
+            different += 1
+            print(f'  plane {plane} of {blocks} blocks: libjpeg wrote {len(bytes_)} bytes, the longest end runs give (number, place) {longest[:2]}')
+            group = named('AC planes of libjpeg that end a run early', plane, ', read, and written by the rules')
+            assert by_rules(group, READ_AC, plane, blocks, 63 * blocks, old, *table, data=bytes_) == given(new)
+            assert by_rules(group, WRITE_AC, plane, blocks, 100000, new, *table) == (refused(28, 0) if plane == 4 else longest)
     return different
 
 
@@ -165,30 +195,34 @@ def boxes(jpeg, kind):
         at += 2 + size
 
 
-def refined(groups, blocks, fines, planes):
-    """Each box is a refinement scan: read over what the one before gave, and written again to the very bytes."""
+def refined(blocks, fines, planes):
+    """Each box is a refinement scan, read over what the one before gave: plane, blocks, values, bytes, and the AC table."""
     dc, ac = [b[0] for b in blocks], [v for b in blocks for v in b[1:]]
     for fine in fines:
         start, data, end, first, high, low, table = scans(b'\xff\xd8' + fine + b'\xff\xd9')[0]
         plane, bytes_ = planes - low, (b'\xff\xd8' + fine)[data:end]
         if first == 0:
             dc = read_dc(plane, len(blocks), bytes_, dc, len(blocks))[3]
-            trip(groups[0], plane, len(blocks), dc, bytes_)
+            yield plane, len(blocks), dc, bytes_, None
         else:
             ac = read_ac(plane, len(blocks), *table, bytes_, ac, 63 * len(blocks))[3]
-            trip(groups[1], plane, len(blocks), ac, bytes_, table)
+            yield plane, len(blocks), ac, bytes_, table
+
+
+def by_reference(width, height, planes, picture, options):
+    """A grey picture as the ISO reference software writes it, with this many planes."""
+    out = os.path.join(TMP, 'r.jpg')
+    subprocess.run(['jpeg', *options, '-R', str(planes), '-h', grey('r.pgm', width, height, 8 + planes, picture), out], check=True, capture_output=True)
+    return open(out, 'rb').read()
 
 
 def from_reference(width, height, planes, noise, seed, residual):
-    """FINE boxes of the ISO reference software, and RFIN boxes where there is a residual."""
-    picture = grey('r.pgm', width, height, 8 + planes, wavy(8 + planes, noise, seed))
-    out = os.path.join(TMP, 'r.jpg')
-    more = ['-Q', '85', '-r', '-rR', str(planes)] if residual else []
-    subprocess.run(['jpeg', '-q', '90' if not residual else '80', '-R', str(planes), '-h'] + more + [picture, out], check=True, capture_output=True)
-    jpeg = open(out, 'rb').read()
-    refined(('DC planes of FINE boxes', 'AC planes of FINE boxes'), coefficients(jpeg), boxes(jpeg, b'FINE'), planes)
-    if residual:
-        refined(('DC planes of RFIN boxes', 'AC planes of RFIN boxes'), coefficients(boxes(jpeg, b'RESI')[0]), boxes(jpeg, b'RFIN'), planes)
+    """FINE boxes of the ISO reference software, and RFIN boxes where there is a residual, written again to the very bytes."""
+    options = ['-q', '80', '-Q', '85', '-r', '-rR', str(planes)] if residual else ['-q', '90']
+    jpeg = by_reference(width, height, planes, wavy(8 + planes, noise, seed), options)
+    for type_, base in [('FINE', jpeg)] + ([('RFIN', boxes(jpeg, b'RESI')[0])] if residual else []):
+        for plane, blocks, new, bytes_, table in refined(coefficients(base), boxes(jpeg, type_.encode()), planes):
+            trip(f'{"AC" if table else "DC"} planes of {type_} boxes', plane, blocks, new, bytes_, table)
 
 
 ALL = bytes(16 * r for r in range(16)) + bytes(16 * r + 1 for r in range(16))
@@ -215,12 +249,17 @@ def some_values(rnd, count, level, density, dc=False):
 
 
 def counts_and_runs(rnd):
+    def trips(plane, blocks, dc, ac):
+        trip('DC planes of 0 to 1024 blocks', plane, blocks, dc, of_01(plane, blocks, dc)[3])
+        trip('AC planes of 0 to 1024 blocks', plane, blocks, ac, of_01(plane, blocks, ac, (SIX, ALL))[3], (SIX, ALL))
+
     for blocks in (0, 1, 2, 63, 1023, 1024):
         for plane in (1, 4):
-            values = some_values(rnd, blocks, plane, 0.5, dc=True)
-            trip('DC planes of 0 to 1024 blocks', plane, blocks, values, write_dc(plane, blocks, values, 10 ** 6)[3])
-            values = some_values(rnd, 63 * blocks, plane, 0.02 if blocks < 100 else 0.001)
-            trip('AC planes of 0 to 1024 blocks', plane, blocks, values, write_ac(plane, blocks, SIX, ALL, values, 10 ** 6)[3], (SIX, ALL))
+            dc = some_values(rnd, blocks, plane, 0.5, dc=True)
+            ac = some_values(rnd, 63 * blocks, plane, 0.02 if blocks < 100 else 0.001)
+            trips(plane, blocks, dc, ac)
+        # the third plane has what the fourth refines
+        trips(3, blocks, [v // 2 for v in dc], [half(v) for v in ac])
     for run in (1, 2, 3, 4, 7, 8, 15, 16, 31, 32, 63, 64, 127, 128, 255, 256, 511, 512, 1023):
         values = [1] + [0] * (63 * run + 62)
         trip('end runs of 1 to 1023 blocks', 1, run + 1, values, write_ac(1, run + 1, SIX, ALL, values, 10 ** 6)[3], (SIX, ALL))
@@ -235,7 +274,7 @@ def counts_and_runs(rnd):
 
 def refusals(rnd):
     zeros = [0] * 63
-    for plane in (0, 1, 4, 5):
+    for plane in (0, 1, 3, 4, 5):
         for blocks, length in ((1, 63), (1, 62), (1024, 63), (1025, 63)):
             by_rules('counts and planes out of range, lists of another length', READ_AC, plane, blocks, 63, [0] * length, *T, data=b'\x67')
             by_rules('counts and planes out of range, lists of another length', WRITE_AC, plane, blocks, 63, [0] * length, *T)
@@ -253,8 +292,7 @@ def refusals(rnd):
                 values = zeros[:at] + [v] + zeros[at + 1:]
                 by_rules('values at the ends of their ranges', READ_AC, level, 1, 63, values, *T, data=b'\x43')
                 by_rules('values at the ends of their ranges', READ_DC, level, 63, 63, values, data=b'\x43')
-                if level < 4:
-                    by_rules('values at the ends of their ranges', WRITE_AC, level - 1, 1, 63, values, *T)
+                by_rules('values at the ends of their ranges', WRITE_AC, level - 1, 1, 63, values, *T)
                 by_rules('values at the ends of their ranges', WRITE_DC, max(1, level - 1), 63, 63, values)
     for room in (0, 62, 63):
         by_rules('room', READ_AC, 1, 1, room, zeros, *T, data=b'\x3f')
@@ -378,8 +416,38 @@ def second_places():
     cut_or_broken()
 
 
+# ---- level 4
+
+def level_four():
+    """The same calls on planes 3, 4 and 5, worked out by hand: what plane 3 answers, and the number of plane 4, which stands before all but 20; plane 5 is refused with 20."""
+    group = 'level 4 is not written'
+    dc, ac, zeros = [5, -1, 0, -4], [1, 3, -1, -6] + [0] * 59, [0] * 63
+    dc_bytes = b'\xcf'          # 1 1 0 0
+    ac_bytes = b'\x6a\x3f'      # 01, sign 1; 01, sign 0, correction 1; 00, correction 0
+    bad, few = (T[0], T[1][:2]), of_two_bits(0x00, 0xF0)
+    for blocks, values, room, third, fourth in (
+            (4, dc, 3, given(dc_bytes), 28), (0, [], 3, given(b''), 28), (1024, [0] * 1024, 128, given(bytes(128)), 28),
+            (4, dc + [0], 3, refused(21, 0), 28), (4, dc[:3], 3, refused(21, 0), 28),
+            (4, dc[:3] + [1 << 14], 3, refused(11, 3), 28), (4, dc[:3] + [1 << 15], 3, refused(11, 3), 28), (4, dc, 0, refused(9, 1), 28), (4, [1 << 15], 0, refused(21, 0), 28),
+            (1025, [0] * 1025, 129, refused(20, 0), 20), (1025, dc, 3, refused(20, 0), 20)):
+        for plane, told in ((3, third), (4, refused(fourth, 0)), (5, refused(20, 0))):
+            assert by_rules(group, WRITE_DC, plane, blocks, room, values) == told
+    for blocks, table, values, room, third, fourth in (
+            (1, T, ac, 3, given(ac_bytes), 28), (0, T, [], 3, given(b''), 28),
+            (1024, (SIX, ALL), zeros * 1024, 3, given(b'\x28\x00'), 28),                 # A0 is 001010, and ten bits of 0
+            (1, T, ac + [0], 3, refused(21, 0), 28), (1, T, ac[:62], 3, refused(21, 0), 28), (1, bad, ac, 3, refused(10, 0), 28),
+            (1, T, ac[:62] + [1 << 14], 3, refused(11, 62), 28), (1, T, ac[:62] + [-(1 << 15)], 3, refused(11, 62), 28),
+            (1, few, ac, 3, refused(19, 0x01), 28), (1, T, ac, 1, refused(9, 2), 28), (1, bad, [1 << 15], 0, refused(21, 0), 28),
+            (1025, (SIX, ALL), zeros * 1025, 3, refused(20, 0), 20), (1025, T, ac, 3, refused(20, 0), 20)):
+        for plane, told in ((3, third), (4, refused(fourth, 0)), (5, refused(20, 0))):
+            assert by_rules(group, WRITE_AC, plane, blocks, room, values, *table) == told
+    for plane in (3, 4):
+        assert by_rules(group, READ_DC, plane, 4, 4, [2, -1, 0, -2], data=dc_bytes) == given(dc)
+        assert by_rules(group, READ_AC, plane, 1, 63, [0, 1, 0, -3] + [0] * 59, *T, data=ac_bytes) == given(ac)
+
+
 def main():
-    subprocess.run(['gcc', '-O1', '-o', os.path.join(TMP, 'coefficients'), os.path.join(HERE, 'coefficients.c'), '-ljpeg'], check=True)
+    built()
     rnd = random.Random(18477)
     different = 0
     stripes = lambda x, y: 255 * (x % 2)
@@ -392,8 +460,10 @@ def main():
     counts_and_runs(rnd)
     refusals(rnd)
     second_places()
+    level_four()
     write(records, sys.argv[1], sys.argv[2])
     print(f'libjpeg differs in {different} planes')
 
 
-main()
+if __name__ == '__main__':
+    main()

@@ -2,6 +2,8 @@
 code, not position by position. Each call gives (number, place, second, output); output is None on a refusal. The second place is that of a stop, the offset of the
 last bit asked for; "All other answers carry 0 as second place." (N17)"""
 
+RETIRED = (4,)      # E11: planes that are read and not written; by the rules of 01, which stored ones are held to, there are none: retired=()
+
 
 class Stop(Exception):
     def __init__(self, number, offset):
@@ -196,9 +198,11 @@ def half(v):
     return v // 2 if v >= 0 else -(-v // 2)
 
 
-def write_dc(plane, blocks, values, room):
+def write_dc(plane, blocks, values, room, retired=RETIRED):
     if not 1 <= plane <= 4 or blocks > 1024:
         return refused(20, 0)
+    if plane in retired:
+        return refused(28, 0)
     if len(values) != blocks:
         return refused(21, 0)
     bad = first_bad(values, lambda v: dc_ok(v, plane))
@@ -253,9 +257,11 @@ def ac_words(blocks, values):
     return words
 
 
-def write_ac(plane, blocks, counts, codes, values, room):
+def write_ac(plane, blocks, counts, codes, values, room, retired=RETIRED):
     if not 1 <= plane <= 4 or blocks > 1024:
         return refused(20, 0)
+    if plane in retired:
+        return refused(28, 0)
     if len(values) != 63 * blocks:
         return refused(21, 0)
     if not good_table(counts, codes):

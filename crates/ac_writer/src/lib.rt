@@ -1,4 +1,4 @@
-// AC planes written (docs/RULES.md, E1 to E10): one pass through the blocks, position by position.
+// AC planes written (docs/RULES.md, E1 to E11): one pass through the blocks, position by position.
 ghost use mathlib.Core.Path.{_≡_};
 ghost use mathlib.Core.Bool.{Bool, true};
 ghost use Prim.Native.Nat.{ℕ, _+_, _*_, _^_, _≤_, _<_};
@@ -302,8 +302,11 @@ fn try_write_ac(
         (written.writeAc plane blocks (table (now (counts .entry)) (now (codes .entry))) (now (values .entry)) (length (now (destination .entry))))
         (now (destination .entry)) (now (destination .exit)) r ⌝ }
 {
-    if !planes::writable(plane, blocks) {
+    if !planes::readable(plane, blocks) {
         return answers::refuse(20, 0);
+    }
+    if !planes::writable(plane) {
+        return answers::refuse(28, 0);
     }
     if values.len() != 63 * blocks {
         return answers::refuse(21, 0);

@@ -70,7 +70,8 @@ fn write_some(
     write_part(name, plane, blocks, codes, &values[..], count, room);
 }
 
-fn main() {
+// Planes that are written.
+fn show_written() {
     // Table T of S3: values 00, 01, F0.
     write_some(b"corrected", 1, 1, b"\x00\x01\xF0", 0, 7, 0, 63, 4);
     write_some(b"toward-zero", 1, 1, b"\x00\x01\xF0", 0, -3, 0, 63, 4);
@@ -91,7 +92,11 @@ fn main() {
         4,
     );
     write_some(b"no-blocks", 1, 0, b"\x00\x01\xF0", 0, 0, 0, 0, 4);
-    // The refusals in their order.
+    write_some(b"plane-three", 3, 1, b"\x00\x01\xF0", 0, 7, 0, 63, 4);
+}
+
+// The refusals in their order.
+fn show_refused() {
     write_some(b"plane-five", 5, 1, b"\x00\x01\xF0", 0, 7, 0, 63, 4);
     write_some(b"values-missing", 1, 1, b"\x00\x01\x01", 0, 7, 0, 62, 4);
     write_some(b"bad-table", 1, 1, b"\x00\x01\x01", 0, 4096, 0, 63, 4);
@@ -99,4 +104,29 @@ fn main() {
     write_some(b"no-run-code", 1, 3, b"\x00\x01\xF0", 0, 0, 0, 189, 0);
     write_some(b"no-zeros-code", 1, 1, b"\x00\x01\x02", 20, 1, 0, 63, 0);
     write_some(b"no-room", 1, 1, b"\x00\x01\xF0", 0, 7, 0, 63, 0);
+}
+
+// "28, level retired": whatever is lent, directly behind 20.
+fn show_retired() {
+    write_some(b"plane-four", 4, 1, b"\x00\x01\xF0", 0, 7, 0, 63, 4);
+    write_some(b"four-no-blocks", 4, 0, b"\x00\x01\xF0", 0, 0, 0, 0, 4);
+    write_some(
+        b"four-values-missing",
+        4,
+        1,
+        b"\x00\x01\xF0",
+        0,
+        7,
+        0,
+        62,
+        4,
+    );
+    write_some(b"four-bad-table", 4, 1, b"\x00\x01\x01", 0, 7, 0, 63, 4);
+    write_some(b"four-too-many", 4, 1025, b"\x00\x01\xF0", 0, 7, 0, 63, 4);
+}
+
+fn main() {
+    show_written();
+    show_refused();
+    show_retired();
 }

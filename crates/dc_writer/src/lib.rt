@@ -1,4 +1,4 @@
-// DC planes written: what each value is more than twice its half (docs/RULES.md, E1 to E3).
+// DC planes written: what each value is more than twice its half (docs/RULES.md, E1 to E3, E11).
 ghost use mathlib.Core.Path.{_≡_};
 ghost use mathlib.Core.List.{map};
 ghost use Prim.Native.Nat.{_≤_};
@@ -43,8 +43,11 @@ fn try_write_dc(plane: u32, blocks: usize, values: &[i32], destination: &mut [u8
     ensures { λ r. ⌜ Tried 0 (writeDc plane blocks (now (values .entry)) (length (now (destination .entry))))
         (now (destination .entry)) (now (destination .exit)) r ⌝ }
 {
-    if !planes::writable(plane, blocks) {
+    if !planes::readable(plane, blocks) {
         return answers::refuse(20, 0);
+    }
+    if !planes::writable(plane) {
+        return answers::refuse(28, 0);
     }
     if values.len() != blocks {
         return answers::refuse(21, 0);

@@ -23,10 +23,11 @@ use Rattle.levels.specs.declared.Part.the-variants.{Dc, Ac, Whole}
 use Rattle.bit_rules.specs.Source.{start}
 use Rattle.bit_rules.specs.Table.{Table, goodTable}
 use Rattle.bit_rules.specs.Write.{placeOf}
-use Rattle.plane_rules.specs.Plane.{readable, writable}
-use Rattle.plane_rules.specs.Dc.{dcBlocks, readDc, dcBytes, writeDc}
+use Rattle.plane_rules.specs.Plane.{readable, ourWriter, writable}
+use Rattle.plane_rules.proofs.Ranges.{ranged}
+use Rattle.plane_rules.specs.Dc.{dcBlocks, readDc, dcBytes, writtenDc, writeDc}
 use Rattle.plane_rules.specs.AcRead.{cut, acBlocks, readAc}
-use Rattle.plane_rules.specs.AcWrite.{Token, code, raw, tokens, orElse, lacking, acBytes, writeAc}
+use Rattle.plane_rules.specs.AcWrite.{Token, code, raw, tokens, orElse, lacking, acBytes, writtenAc, writeAc}
 use Rattle.transform_rules.specs.Picture.{picture}
 use Rattle.transform_rules.specs.Call.{isQuantiser, firstBadQuantiser, inverseTransform}
 use Rattle.transform_rules.proofs.Lengths.{picture-length}
@@ -40,7 +41,7 @@ use Rattle.merge_rules.specs.Picture as merging
 use Rattle.merge_rules.specs.Picture.{merge, mergeTests}
 use Rattle.merge_laws.proofs.Order.{picture-long}
 use Rattle.merge_rules.specs.Call.{matrixCount, settingNumber, mergeCall}
-use Rattle.demands.specs.One.{Rows, row, rows, stands, _then_, failing, needed, First, FirstLacking, boxRows, packetRows, listRows, dcReadRows, acReadRows, dcWriteRows, acWriteRows, badQuantiser, transformRows, previewRows, mergeRows, mergeCallRows, DemandOne}
+use Rattle.demands.specs.One.{Rows, row, rows, stands, _then_, failing, needed, First, retired, FirstLacking, boxRows, packetRows, listRows, dcReadRows, acReadRows, dcWriteRows, acWriteRows, badQuantiser, transformRows, previewRows, mergeRows, mergeCallRows, DemandOne}
 use Rattle.demands.specs.Blocks.{oneDc, oneAc}
 use Rattle.demands.proofs.Rows.{Judged, need-judged, failing-judged, unless-judged, fitting-judged, first-index, index-first, NoZero, answered}
 use Rattle.demands.proofs.Blocks.{dc-stops, stops-dc, dc-left, left-dc, ac-stops, stops-ac, ac-left, left-ac}
@@ -120,10 +121,20 @@ list-judged file room = fitting-judged room (length (listing file)) (listing fil
 
 -- ---- writing planes
 
+-- 28: of the planes that there are, the fourth is the one that our writer does not write
+retired-judged : {later : Rows} {room : ℕ} (plane blocks : ℕ) → every (readable plane blocks) ≡ true → (next : Verdict ℕ) → (writable ourWriter plane ≡ true → Judged later room next)
+    → Judged (row 28 (retired plane) then later) room (need (writable ourWriter plane) 28 0 next)
+retired-judged plane blocks e next =
+    let high : plane ≤ 4 = ranged plane blocks e .high in
+    need-judged (retired plane) (leb plane 3) 28 0 next
+    (λ f. let above : 3 < plane = leb-false plane 3 f in (refl, omega arith))
+    (λ q h. let same : plane ≡ 4 = h .1 in (lt-leb plane 3 (omega arith), h .0))
+
 pub dc-write-judged : (plane blocks : ℕ) (values : List ℤ) (room : ℕ) → Judged (dcWriteRows plane blocks values room) room (writeDc plane blocks values room)
-unfolding writeDc dcWriteRows
+unfolding writtenDc dcWriteRows
 dc-write-judged plane blocks values room =
-    failing-judged (every (writable plane blocks)) 20 _ λ e.
+    failing-judged (every (readable plane blocks)) 20 _ λ e.
+    retired-judged plane blocks e _ λ l.
     failing-judged (eqb (length values) blocks) 21 _ λ f.
     outside-judged Dc plane values _ λ o.
     fitting-judged room (length (dcBytes values)) (dcBytes values) refl
@@ -192,9 +203,10 @@ lacking-first : (codes : Table) (ts : List Token) (v : ℕ) → FirstLacking cod
 lacking-first codes ts v h = rw (h .written) (lacking-behind codes (h .earlier) v (h .later) (h .held) (h .lacks))
 
 pub ac-write-judged : (plane blocks : ℕ) (codes : Table) (values : List ℤ) (room : ℕ) → Judged (acWriteRows plane blocks codes values room) room (writeAc plane blocks codes values room)
-unfolding writeAc acWriteRows
+unfolding writtenAc acWriteRows
 ac-write-judged plane blocks codes values room =
-    failing-judged (every (writable plane blocks)) 20 _ λ e.
+    failing-judged (every (readable plane blocks)) 20 _ λ e.
+    retired-judged plane blocks e _ λ l.
     failing-judged (eqb (length values) (63 * blocks)) 21 _ λ f.
     failing-judged (goodTable codes) 10 _ λ t.
     outside-judged Ac plane values _ λ o.
@@ -306,12 +318,12 @@ list-zero file room = row-zero 9 _ (omega arith)
 
 pub dc-write-zero : (plane blocks : ℕ) (values : List ℤ) (room : ℕ) → NoZero (dcWriteRows plane blocks values room)
 unfolding dcWriteRows
-dc-write-zero plane blocks values room = row-zero 20 _ (omega arith) and row-zero 21 _ (omega arith) and row-zero 11 _ (omega arith) and row-zero 9 _ (omega arith)
+dc-write-zero plane blocks values room = row-zero 20 _ (omega arith) and row-zero 28 _ (omega arith) and row-zero 21 _ (omega arith) and row-zero 11 _ (omega arith) and row-zero 9 _ (omega arith)
 
 pub ac-write-zero : (plane blocks : ℕ) (codes : Table) (values : List ℤ) (room : ℕ) → NoZero (acWriteRows plane blocks codes values room)
 unfolding acWriteRows
 ac-write-zero plane blocks codes values room =
-    row-zero 20 _ (omega arith) and row-zero 21 _ (omega arith) and row-zero 10 _ (omega arith) and row-zero 11 _ (omega arith) and row-zero 19 _ (omega arith) and row-zero 9 _ (omega arith)
+    row-zero 20 _ (omega arith) and row-zero 28 _ (omega arith) and row-zero 21 _ (omega arith) and row-zero 10 _ (omega arith) and row-zero 11 _ (omega arith) and row-zero 19 _ (omega arith) and row-zero 9 _ (omega arith)
 
 pub transform-zero : (refinement blocks : ℕ) (values : List ℤ) (quantisers : List ℕ) (room : ℕ) → NoZero (transformRows refinement blocks values quantisers room)
 unfolding transformRows

@@ -74,8 +74,8 @@ numbers-are = record {
   dcRead = λ plane blocks values bytes room. row-in 20 _ tt with row-in 21 _ tt with row-in 11 _ tt with row-in 9 _ tt with rows-in (12 ∷ 13 ∷ []) _ refl with row-in 18 _ tt;
   acRead = λ plane blocks codes values bytes room.
       row-in 20 _ tt with row-in 21 _ tt with row-in 10 _ tt with row-in 11 _ tt with row-in 9 _ tt with rows-in (12 ∷ 13 ∷ 14 ∷ 15 ∷ 16 ∷ 17 ∷ []) _ refl with row-in 18 _ tt;
-  dcWrite = λ plane blocks values room. row-in 20 _ tt with row-in 21 _ tt with row-in 11 _ tt with row-in 9 _ tt;
-  acWrite = λ plane blocks codes values room. row-in 20 _ tt with row-in 21 _ tt with row-in 10 _ tt with row-in 11 _ tt with row-in 19 _ tt with row-in 9 _ tt;
+  dcWrite = λ plane blocks values room. row-in 20 _ tt with row-in 28 _ tt with row-in 21 _ tt with row-in 11 _ tt with row-in 9 _ tt;
+  acWrite = λ plane blocks codes values room. row-in 20 _ tt with row-in 28 _ tt with row-in 21 _ tt with row-in 10 _ tt with row-in 11 _ tt with row-in 19 _ tt with row-in 9 _ tt;
   transforms = λ refinement blocks values quantisers room. row-in 20 _ tt with row-in 21 _ tt with row-in 22 _ tt with row-in 11 _ tt with row-in 9 _ tt;
   previews = λ left quantisers room. row-in 20 _ tt with row-in 21 _ tt with row-in 22 _ tt with row-in 9 _ tt;
   merges = λ s pixels base residual table room. row-in 20 _ tt with row-in 20 _ tt with row-in 20 _ tt with row-in 21 _ tt with row-in 11 _ tt with row-in 9 _ tt;

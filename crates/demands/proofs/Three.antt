@@ -1,30 +1,41 @@
 -- Demand 3 holds, and its conditions can be met. Assumes nothing.
-use mathlib.Core.Path.{_≡_, ap₂, _∙_}
+use mathlib.Core.Path.{_≡_, refl, ap₂, _∙_}
+use mathlib.Core.Bool.{Bool, true, false, cond}
 use mathlib.Core.List.{List}
 use mathlib.Core.Option.{some}
 use Prim.Native.Nat.{ℕ, zero, suc, _-_, _*_, _≤_, _<_}
 use native.Mathlib.Omega.{arith}
+use lib.Dec.{leb}
 use lib.IntN.{ℤ}
 use lib.ListN.{length, length-map}
+use Rattle.plane_rules.specs.Plane.{ourWriter, theRules, writable}
 use Rattle.plane_rules.specs.Dc.{dcBytes}
 use Rattle.plane_rules.specs.AcWrite.{acBytes}
 use Rattle.plane_rules.specs.Levels.{downward, towardZero}
 use Rattle.plane_rules.proofs.Levels.{level-full, level-inside, climbed}
 use Rattle.trips.proofs.DcTrip.{dc-halving, dc-written, dc-read}
 use Rattle.trips.proofs.AcTrip.{ac-halving, ac-written, ac-read}
-use Rattle.demands.specs.Three.{Both, Within, levelOf, Provided, Enough, writePlane, readPlane, Refined, DemandThree, CanBeMet}
+use Rattle.demands.specs.Three.{Both, Within, levelOf, Provided, Enough, writerOf, writePlane, readPlane, Refined, DemandThree, CanBeMet}
 use Rattle.demands.proofs.Held.{everyCode, every-good, every-held}
 
 module _ (k n : ℕ) (full : Both ℤ) (lent : ℕ → Provided) (few : k ≤ 4) (a : Within k n full) (enough : (j : ℕ) → 1 ≤ j → j ≤ k → Enough n (levelOf k full j) (lent j)) where
   bytes : ℕ → Both ℕ
   bytes j = record { dc = dcBytes (levelOf k full j .dc); ac = acBytes n (lent j .table) (levelOf k full j .ac) }
 
+  -- planes 1 to 3 are our writer's, and the rules write every plane
+  theirs : (j : ℕ) → writable (writerOf j) j ≡ true
+  theirs j = go (leb j 3) refl
+    where
+      go : (b : Bool) → leb j 3 ≡ b → writable (cond b ourWriter theRules) j ≡ true
+      go true e = e
+      go false e = refl
+
   written : (j : ℕ) → 1 ≤ j → j ≤ k → writePlane j n (lent j) (levelOf k full j) ≡ some (bytes j)
   unfolding bytes levelOf writePlane
   written zero h l = absurd (omega arith)
   written (suc j) h l =
       let e = enough (suc j) h l in
-      rw (dc-written k n few (a .few) (full .dc) (a .dcCount) (a .dcRange) j (lent (suc j) .dcRoom) l (e .dcRoom), ac-written k n few (a .few) (full .ac) (a .acCount) (a .acRange) (lent (suc j) .table) j l (e .good) (e .codes) (lent (suc j) .acRoom) (e .acRoom))
+      rw (dc-written k n few (a .few) (full .dc) (a .dcCount) (a .dcRange) (writerOf (suc j)) j (lent (suc j) .dcRoom) (theirs (suc j)) l (e .dcRoom), ac-written k n few (a .few) (full .ac) (a .acCount) (a .acRange) (lent (suc j) .table) j l (e .good) (e .codes) (writerOf (suc j)) (lent (suc j) .acRoom) (theirs (suc j)) (e .acRoom))
 
   next : (j : ℕ) → j < k → readPlane (suc j) n (lent (suc j)) (bytes (suc j)) (levelOf k full j) ≡ some (levelOf k full (suc j))
   unfolding bytes levelOf readPlane

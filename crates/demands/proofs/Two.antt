@@ -20,10 +20,10 @@ use Rattle.levels.specs.Level.{firstOutside}
 use Rattle.levels.specs.declared.Part.the-variants.{Dc, Ac, Whole}
 use Rattle.bit_rules.specs.Source.{Source, start, onlyPadding}
 use Rattle.bit_rules.specs.Table.{Table, goodTable}
-use Rattle.plane_rules.specs.Plane.{readable, writable, Plane, read, refusing, closed}
-use Rattle.plane_rules.specs.Dc.{dcBlocks, readDc, dcBytes, writeDc}
+use Rattle.plane_rules.specs.Plane.{readable, ourWriter, writable, Plane, read, refusing, closed}
+use Rattle.plane_rules.specs.Dc.{dcBlocks, readDc, dcBytes, writtenDc, writeDc}
 use Rattle.plane_rules.specs.AcRead.{cut, acBlocks, readAc}
-use Rattle.plane_rules.specs.AcWrite.{tokens, lacking, acBytes, writeAc}
+use Rattle.plane_rules.specs.AcWrite.{tokens, lacking, acBytes, writtenAc, writeAc}
 use Rattle.box_laws.proofs.Order.{handed-given, given-handed}
 use Rattle.transform_rules.specs.Picture as blockwise
 use Rattle.transform_rules.specs.Call.{firstBadQuantiser, inverseTransform}
@@ -137,34 +137,36 @@ module _ (plane blocks : ℕ) (values : List ℤ) (bytes : List ℕ) (room : ℕ
 
 module _ (plane blocks : ℕ) (values : List ℤ) (room : ℕ) where
   dc-coded : (ys : List ℕ) → writeDc plane blocks values room ≡ given ys → DcCoded plane blocks values room ys
-  unfolding writeDc
+  unfolding writtenDc
   dc-coded ys e =
-      let a = need-given (every (writable plane blocks)) 20 0 _ ys e in
-      let b = need-given (eqb (length values) blocks) 21 0 _ ys (a .1) in
+      let a = need-given (every (readable plane blocks)) 20 0 _ ys e in
+      let l = need-given (writable ourWriter plane) 28 0 _ ys (a .1) in
+      let b = need-given (eqb (length values) blocks) 21 0 _ ys (l .1) in
       let c = unless-given 11 (firstOutside Dc plane values) _ ys (b .1) in
       let h = fitted room (dcBytes values) ys (c .1) in
-      record { counts = a .0; long = eqb-true (length values) blocks (b .0); ranged = c .0; bytes = h .0; fits = h .1 }
+      record { counts = a .0; level = leb-true plane 3 (l .0); long = eqb-true (length values) blocks (b .0); ranged = c .0; bytes = h .0; fits = h .1 }
 
   coded-dc : (ys : List ℕ) → DcCoded plane blocks values room ys → writeDc plane blocks values room ≡ given ys
-  unfolding writeDc
-  coded-dc ys h = rw (h .counts, eq-eqb (length values) blocks (h .long), h .ranged) (fits-given room (dcBytes values) ys (h .bytes) (h .fits))
+  unfolding writtenDc
+  coded-dc ys h = rw (h .counts, le-leb plane 3 (h .level), eq-eqb (length values) blocks (h .long), h .ranged) (fits-given room (dcBytes values) ys (h .bytes) (h .fits))
 
   module _ (codes : Table) where
     ac-coded : (ys : List ℕ) → writeAc plane blocks codes values room ≡ given ys → AcCoded plane blocks codes values room ys
-    unfolding writeAc
+    unfolding writtenAc
     ac-coded ys e =
-        let a = need-given (every (writable plane blocks)) 20 0 _ ys e in
-        let b = need-given (eqb (length values) (63 * blocks)) 21 0 _ ys (a .1) in
+        let a = need-given (every (readable plane blocks)) 20 0 _ ys e in
+        let l = need-given (writable ourWriter plane) 28 0 _ ys (a .1) in
+        let b = need-given (eqb (length values) (63 * blocks)) 21 0 _ ys (l .1) in
         let t = need-given (goodTable codes) 10 0 _ ys (b .1) in
         let c = unless-given 11 (firstOutside Ac plane values) _ ys (t .1) in
         let d = unless-given 19 (lacking codes (tokens blocks values)) _ ys (c .1) in
         let h = fitted room (acBytes blocks codes values) ys (d .1) in
-        record { counts = a .0; long = eqb-true (length values) (63 * blocks) (b .0); good = t .0; ranged = c .0; held = d .0; bytes = h .0; fits = h .1 }
+        record { counts = a .0; level = leb-true plane 3 (l .0); long = eqb-true (length values) (63 * blocks) (b .0); good = t .0; ranged = c .0; held = d .0; bytes = h .0; fits = h .1 }
 
     coded-ac : (ys : List ℕ) → AcCoded plane blocks codes values room ys → writeAc plane blocks codes values room ≡ given ys
-    unfolding writeAc
+    unfolding writtenAc
     coded-ac ys h =
-        rw (h .counts, eq-eqb (length values) (63 * blocks) (h .long), h .good, h .ranged, h .held) (fits-given room (acBytes blocks codes values) ys (h .bytes) (h .fits))
+        rw (h .counts, le-leb plane 3 (h .level), eq-eqb (length values) (63 * blocks) (h .long), h .good, h .ranged, h .held) (fits-given room (acBytes blocks codes values) ys (h .bytes) (h .fits))
 
 -- ---- samples and merged results
 

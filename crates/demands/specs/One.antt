@@ -18,7 +18,7 @@ use Rattle.levels.specs.declared.Part.the-variants.{Dc, Ac, Whole}
 use Rattle.bit_rules.specs.Source.{start}
 use Rattle.bit_rules.specs.Table.{Table, goodTable}
 use Rattle.bit_rules.specs.Write.{placeOf}
-use Rattle.plane_rules.specs.Plane.{readable, writable}
+use Rattle.plane_rules.specs.Plane.{readable}
 use Rattle.plane_rules.specs.Dc.{readDc, dcBytes, writeDc}
 use Rattle.plane_rules.specs.AcRead.{cut, readAc}
 use Rattle.plane_rules.specs.AcWrite.{Token, code, tokens, lacking, acBytes, writeAc}
@@ -174,10 +174,15 @@ acReadRows plane blocks codes values bytes room =
 unfoldable pub listRows : List ℕ → ℕ → Rows
 listRows file room = row 9 (needed (length (listing file)) room)
 
--- N8: "Plane writing: 20, 21, 10, 11, 19 (first needed in writing order), 9"
+-- E11: 28, "level retired": place "0", for plane 4
+abbrev pub retired : ℕ → ℕ → Type 0
+retired plane p = (p ≡ 0) × (plane ≡ 4)
+
+-- N8: "Plane writing: 20, 21, 10, 11, 19 (first needed in writing order), 9", and 28 "directly after 20"
 unfoldable pub dcWriteRows : ℕ → ℕ → List ℤ → ℕ → Rows
 dcWriteRows plane blocks values room =
-    row 20 (failing (every (writable plane blocks)))
+    row 20 (failing (every (readable plane blocks)))
+    then row 28 (retired plane)
     then row 21 (failing (eqb (length values) blocks))
     then row 11 (First (length values) (inside Dc plane values))
     then row 9 (needed (length (dcBytes values)) room)
@@ -193,7 +198,8 @@ pub record FirstLacking (codes : Table) (ts : List Token) (v : ℕ) : Type 0 whe
 -- N8: the same for an AC plane, which has a table
 unfoldable pub acWriteRows : ℕ → ℕ → Table → List ℤ → ℕ → Rows
 acWriteRows plane blocks codes values room =
-    row 20 (failing (every (writable plane blocks)))
+    row 20 (failing (every (readable plane blocks)))
+    then row 28 (retired plane)
     then row 21 (failing (eqb (length values) (63 * blocks)))
     then row 10 (failing (goodTable codes))
     then row 11 (First (length values) (inside Ac plane values))

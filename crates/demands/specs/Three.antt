@@ -1,11 +1,12 @@
--- D3: take any blocks within the ranges and any k from 0 to 4. Write them as a base and k planes with our writer, given room and code tables that
--- hold every code needed. Each plane is accepted. After the first j planes each value is the full one divided by 2^(k-j), downward for DC and toward
--- zero for AC; after all k it is the full value.
+-- D3: take any blocks within the ranges and any k from 0 to 4. Write them as a base and k planes, planes 1 to 3 with our writer and a fourth by the
+-- rules of 01, given room and code tables that hold every code needed. Each plane is accepted. After the first j planes each value is the full one
+-- divided by 2^(k-j), downward for DC and toward zero for AC; after all k it is the full value.
 use mathlib.Core.Path.{_≡_}
-use mathlib.Core.Bool.{true}
+use mathlib.Core.Bool.{true, cond}
 use mathlib.Core.List.{List}
 use mathlib.Core.Option.{Option, none, some}
 use Prim.Native.Nat.{ℕ, _*_, _≤_}
+use lib.Dec.{leb}
 use lib.IntN.{ℤ}
 use lib.ListN.{length}
 use Rattle.laws.specs.declared.Found.the-variants.{Nothing}
@@ -13,9 +14,10 @@ use Rattle.answers.specs.Verdict.{Verdict, given, refused}
 use Rattle.levels.specs.Level.{firstOutside}
 use Rattle.levels.specs.declared.Part.the-variants.{Dc, Ac}
 use Rattle.bit_rules.specs.Table.{Table, goodTable}
-use Rattle.plane_rules.specs.Dc.{readDc, writeDc, dcBytes}
+use Rattle.plane_rules.specs.Plane.{Writer, ourWriter, theRules}
+use Rattle.plane_rules.specs.Dc.{readDc, writtenDc, dcBytes}
 use Rattle.plane_rules.specs.AcRead.{readAc}
-use Rattle.plane_rules.specs.AcWrite.{writeAc, tokens, lacking, acBytes}
+use Rattle.plane_rules.specs.AcWrite.{writtenAc, tokens, lacking, acBytes}
 use Rattle.plane_rules.specs.Levels.{downward, towardZero, atLevel, climb}
 
 -- L6: "Plane j" of a picture means both, DC and AC: the values of its blocks, or the bytes of a plane
@@ -58,9 +60,14 @@ together (given dc) (given ac) = some (record { dc = dc; ac = ac })
 together (given dc) (refused r) = none
 together (refused r) other = none
 
--- L6: plane j, written with our writer
+-- D3, E11: "for our writer with k up to 3", and "the fourth plane written by the rules of 01"
+abbrev pub writerOf : ℕ → Writer
+writerOf j = cond (leb j 3) ourWriter theRules
+
+-- L6: plane j, written so
 unfoldable pub writePlane : ℕ → ℕ → Provided → Both ℤ → Option (Both ℕ)
-writePlane j n lent values = together (writeDc j n (values .dc) (lent .dcRoom)) (writeAc j n (lent .table) (values .ac) (lent .acRoom))
+writePlane j n lent values =
+    together (writtenDc (writerOf j) j n (values .dc) (lent .dcRoom)) (writtenAc (writerOf j) j n (lent .table) (values .ac) (lent .acRoom))
 
 -- L6: plane j, read over the values that were there before
 unfoldable pub readPlane : ℕ → ℕ → Provided → Both ℕ → Both ℤ → Option (Both ℤ)

@@ -20,7 +20,7 @@ use Rattle.levels.specs.declared.Part.the-variants.{Dc, Ac, Whole}
 use Rattle.bit_rules.specs.Digits.{bin, digits}
 use Rattle.bit_rules.specs.Source.{Source, start, onlyPadding}
 use Rattle.bit_rules.specs.Table.{Table, goodTable}
-use Rattle.plane_rules.specs.Plane.{readable, writable, read}
+use Rattle.plane_rules.specs.Plane.{readable, read}
 use Rattle.plane_rules.specs.Dc.{dcBlocks, readDc, dcBytes, writeDc}
 use Rattle.plane_rules.specs.AcRead.{cut, acBlocks, readAc}
 use Rattle.plane_rules.specs.AcWrite.{tokens, lacking, acBytes, writeAc}
@@ -76,9 +76,10 @@ pub record Listed (file : List ℕ) (room : ℕ) (ys : List ℕ) : Type 0 where
   pub text : ys ≡ listing file
   pub fits : length ys ≤ room
 
--- D2: "The writer takes level j values, j 1 to 4"
+-- D2: "The writer takes level j values, j 1 to 4"; "The writer refuses level 4 from now on."
 pub record DcCoded (plane blocks : ℕ) (values : List ℤ) (room : ℕ) (ys : List ℕ) : Type 0 where
-  pub counts : every (writable plane blocks) ≡ true
+  pub counts : every (readable plane blocks) ≡ true
+  pub level : plane ≤ 3
   pub long : length values ≡ blocks
   pub ranged : firstOutside Dc plane values ≡ Nothing
   pub bytes : ys ≡ dcBytes values
@@ -86,7 +87,8 @@ pub record DcCoded (plane blocks : ℕ) (values : List ℤ) (room : ℕ) (ys : L
 
 -- D2: the same for an AC plane, whose table holds every code needed
 pub record AcCoded (plane blocks : ℕ) (codes : Table) (values : List ℤ) (room : ℕ) (ys : List ℕ) : Type 0 where
-  pub counts : every (writable plane blocks) ≡ true
+  pub counts : every (readable plane blocks) ≡ true
+  pub level : plane ≤ 3
   pub long : length values ≡ 63 * blocks
   pub good : goodTable codes ≡ true
   pub ranged : firstOutside Ac plane values ≡ Nothing

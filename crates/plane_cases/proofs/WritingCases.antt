@@ -13,7 +13,7 @@ use Rattle.bit_rules.specs.Pack.{stuffed, padded, packed}
 use Rattle.bit_rules.specs.Table.{Table, table, codeCount, kraft, holds, distinct, goodTable}
 use Rattle.bit_rules.specs.Write.{placeOf, codeAt, word}
 use Rattle.plane_rules.specs.AcRead.{cut}
-use Rattle.plane_rules.specs.AcWrite.{acHalf, kindOf, oneMore, ahead, quiet, plan, order, emit, writeBlock, writeBlocks, tokens, lacking, spelled, writeAc}
+use Rattle.plane_rules.specs.AcWrite.{acHalf, kindOf, oneMore, ahead, quiet, plan, order, emit, writeBlock, writeBlocks, tokens, lacking, spelled, writtenAc, writeAc}
 
 -- three codes of two bits: 00, 01, 10
 abbrev pub threeCodes : List ℕ → Table
@@ -98,7 +98,7 @@ runs =
 
 -- 19, "first needed in writing order": 17 zeros need 11 behind F0; 15 zeros need F1 and no F0; 21 before 31 and 31 before 11; an end run's code stands before the next block's; runs of 1, 2 and 4
 -- 11: beyond 4,095 either way at level 1; 9: one byte short, and 00 behind FF counts
--- "20, 21, 10, 11, 19 .., 9": two faults in one, the earlier is told
+-- 28 directly behind 20, and "20, 21, 10, 11, 19 .., 9": two faults in one, the earlier is told
 abbrev pub refusals : List Writing
 refusals =
     writing 1 T 1 (only 17 (negsuc 0) 45) 9 (refused (refusal 19 0x11))
@@ -118,7 +118,8 @@ refusals =
     ∷ writing 1 late 1 (only 62 (pos 1) 0) 2 (refused (refusal 9 3))
     ∷ writing 0 T 1 [] 9 (refused (refusal 20 0))
     ∷ writing 5 T 1 [] 9 (refused (refusal 20 0))
-    ∷ writing 4 T 1 [] 9 (refused (refusal 21 0))
+    ∷ writing 4 T 1 [] 9 (refused (refusal 28 0))
+    ∷ writing 3 T 1 [] 9 (refused (refusal 21 0))
     ∷ writing 1 T 1025 [] 9 (refused (refusal 20 0))
     ∷ writing 1 bad 1 (zeros 62) 9 (refused (refusal 21 0))
     ∷ writing 1 bad 1 (zeros 64) 9 (refused (refusal 21 0))
@@ -134,5 +135,5 @@ abbrev pub writings : List Writing
 writings = blocks ++ (runs ++ refusals)
 
 pub cases : map (λ (w : Writing). writeAc (w .plane) (w .blocks) (w .codes) (w .values) (w .room)) writings ≡ map (λ (w : Writing). w .verdict) writings
-unfolding every firstFail orHere inLevel isDc inside firstOutside digits stuffed padded packed codeCount kraft holds distinct goodTable placeOf codeAt word cut acHalf kindOf oneMore ahead quiet plan order emit writeBlock writeBlocks tokens lacking spelled writeAc
+unfolding every firstFail orHere inLevel isDc inside firstOutside digits stuffed padded packed codeCount kraft holds distinct goodTable placeOf codeAt word cut acHalf kindOf oneMore ahead quiet plan order emit writeBlock writeBlocks tokens lacking spelled writtenAc
 cases = refl

@@ -15,10 +15,10 @@ use Rattle.bit_rules.specs.Table.{Table, table, codeCount, kraft, holds, distin
 use Rattle.bit_rules.specs.Read.{codeFrom, takeCode}
 use Rattle.bit_rules.specs.Write.{placeOf}
 use Rattle.plane_rules.specs.Plane.{onto, closed}
-use Rattle.plane_rules.specs.Dc.{newDc, dcBlocks, readDc, dcHalf, dcBit, writeDc}
+use Rattle.plane_rules.specs.Dc.{newDc, dcBlocks, readDc, dcHalf, dcBit, writtenDc, writeDc}
 use Rattle.bit_rules.specs.Number.{takeNumber}
 use Rattle.plane_rules.specs.AcRead.{endRun, meaning, taskAt, position, blockEnd, acBlock, cut, acBlocks, readAc}
-use Rattle.plane_rules.specs.AcWrite.{acHalf, kindOf, oneMore, ahead, quiet, plan, order, emit, writeBlock, writeBlocks, tokens, lacking, writeAc}
+use Rattle.plane_rules.specs.AcWrite.{acHalf, kindOf, oneMore, ahead, quiet, plan, order, emit, writeBlock, writeBlocks, tokens, lacking, writtenAc, writeAc}
 
 -- "Table T: lengths 2, values 00, 01, F0 (codes 00, 01, 10)."
 abbrev pub T : Table
@@ -61,12 +61,12 @@ case-d-read = refl
 
 -- "Eight ones write FF 00."
 pub case-d-write : writeDc 1 8 (replicate 8 (pos 1)) 2 ≡ given (0xff ∷ 0 ∷ [])
-unfolding every firstFail orHere inLevel isDc inside firstOutside stuffed padded packed dcHalf dcBit writeDc
+unfolding every firstFail orHere inLevel isDc inside firstOutside stuffed padded packed dcHalf dcBit writtenDc
 case-d-write = refl
 
 -- "writer's table lacks a code", "the code's value": a new value at position 1 needs 01
 pub lacking-code : writeAc 1 1 (table (0 ∷ 2 ∷ replicate 14 0) (0x00 ∷ 0xf0 ∷ [])) (block (pos 1)) 8 ≡ refused (refusal 19 1)
-unfolding every firstFail orHere inLevel isDc inside firstOutside digits codeCount kraft holds distinct goodTable placeOf cut acHalf kindOf oneMore ahead quiet plan order emit writeBlock writeBlocks tokens lacking writeAc
+unfolding every firstFail orHere inLevel isDc inside firstOutside digits codeCount kraft holds distinct goodTable placeOf cut acHalf kindOf oneMore ahead quiet plan order emit writeBlock writeBlocks tokens lacking writtenAc
 lacking-code = refl
 
 -- "Halving a negative AC downward: -3 must give -1, not -2."; DC is halved downward

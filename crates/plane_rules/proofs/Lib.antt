@@ -1,4 +1,5 @@
 pub mod ReadCases
+pub mod RetiredCases
 pub mod WriteCases
 pub mod Levels
 pub mod Ranges

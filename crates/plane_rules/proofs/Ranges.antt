@@ -5,7 +5,7 @@ use Prim.Native.Nat.{ℕ, _≤_}
 use borrow.Author.Tests.{leb-true, le-leb}
 use Rattle.laws.specs.Index.{every}
 use Rattle.laws.proofs.Lists.{every-first, every-rest}
-use Rattle.plane_rules.specs.Plane.{readable, writable}
+use Rattle.plane_rules.specs.Plane.{readable}
 
 pub record Ranged (plane blocks : ℕ) : Type 0 where
   pub low : 1 ≤ plane
@@ -24,12 +24,3 @@ ranged plane blocks e =
 pub in-range : (plane blocks : ℕ) → 1 ≤ plane → plane ≤ 4 → blocks ≤ 1024 → every (readable plane blocks) ≡ true
 unfolding every
 in-range plane blocks a b c = rw (le-leb 1 plane a, le-leb plane 4 b, le-leb blocks 1024 c)
-
--- the planes that the writer takes
-pub may-write : (plane blocks : ℕ) → 1 ≤ plane → plane ≤ 4 → blocks ≤ 1024 → every (writable plane blocks) ≡ true
-unfolding every
-may-write plane blocks a b c = rw (le-leb 1 plane a, le-leb plane 4 b, le-leb blocks 1024 c)
-
--- what may be written may be read
-pub may-read : (plane blocks : ℕ) → every (writable plane blocks) ≡ true → every (readable plane blocks) ≡ true
-may-read plane blocks e = e

@@ -13,10 +13,10 @@ use Rattle.bit_rules.specs.Digits.{digits}
 use Rattle.bit_rules.specs.Pack.{stuffed, padded, packed}
 use Rattle.bit_rules.specs.Table.{Table, table, codeCount, kraft, holds, distinct, goodTable}
 use Rattle.bit_rules.specs.Write.{placeOf, codeAt, word}
-use Rattle.plane_rules.specs.Dc.{dcHalf, dcBit, writeDc}
+use Rattle.plane_rules.specs.Dc.{dcHalf, dcBit, writtenDc, writeDc}
 use Rattle.plane_rules.specs.Task.{walk, ended}
 use Rattle.plane_rules.specs.AcRead.{cut}
-use Rattle.plane_rules.specs.AcWrite.{acHalf, keep, still, fresh, kindOf, oneMore, ahead, quiet, plan, order, class, emit, after, writeBlock, writeBlocks, tokens, lacking, spelled, writeAc}
+use Rattle.plane_rules.specs.AcWrite.{acHalf, keep, still, fresh, kindOf, oneMore, ahead, quiet, plan, order, class, emit, after, writeBlock, writeBlocks, tokens, lacking, spelled, writtenAc, writeAc}
 use Rattle.plane_rules.proofs.Cases.{block}
 use Rattle.plane_rules.proofs.ReadCases.{Case, _gives_, _refuses_at_, Holds, zeros, atFive, noTable}
 
@@ -29,15 +29,15 @@ dcWrites =
     ∷ (writeDc 1 1025 [] 0 refuses 20 at 0)
     ∷ (writeDc 1 1024 [] 0 refuses 21 at 0)
     -- 21 before 11, 11 before 9
-    ∷ (writeDc 4 1 (pos 0 ∷ pos 32768 ∷ []) 0 refuses 21 at 0)
+    ∷ (writeDc 3 1 (pos 0 ∷ pos 16384 ∷ []) 0 refuses 21 at 0)
     ∷ (writeDc 1 2 (pos 0 ∷ pos 4096 ∷ []) 0 refuses 11 at 1)
     -- "The writer takes level j values": -2^(11+j) to 2^(11+j)-1; 9 counts the 00 behind FF
     ∷ (writeDc 1 1 (pos 4095 ∷ []) 1 refuses 9 at 2)
     ∷ (writeDc 1 1 (pos 4095 ∷ []) 2 gives (0xFF ∷ 0 ∷ []))
     ∷ (writeDc 1 1 (negsuc 4095 ∷ []) 1 gives (0x7F ∷ []))
     ∷ (writeDc 1 1 (negsuc 4096 ∷ []) 1 refuses 11 at 0)
-    ∷ (writeDc 4 1 (pos 32767 ∷ []) 2 gives (0xFF ∷ 0 ∷ []))
-    ∷ (writeDc 4 1 (pos 32768 ∷ []) 2 refuses 11 at 0)
+    ∷ (writeDc 3 1 (pos 16383 ∷ []) 2 gives (0xFF ∷ 0 ∷ []))
+    ∷ (writeDc 3 1 (pos 16384 ∷ []) 2 refuses 11 at 0)
     -- 5, -1, 0 against 2, -1, 0: the bits 1, 1, 0, then ones; -3 against -2 is 1, -2 against -1 is 0
     ∷ (writeDc 1 3 (pos 5 ∷ negsuc 0 ∷ pos 0 ∷ []) 1 gives (0xDF ∷ []))
     ∷ (writeDc 1 2 (negsuc 2 ∷ negsuc 1 ∷ []) 1 gives (0xBF ∷ []))
@@ -45,17 +45,17 @@ dcWrites =
     ∷ []
 
 pub dc-writes : Holds dcWrites
-unfolding every firstFail orHere inLevel isDc inside firstOutside stuffed padded packed dcHalf dcBit writeDc
+unfolding every firstFail orHere inLevel isDc inside firstOutside stuffed padded packed dcHalf dcBit writtenDc
 dc-writes = refl
 
 -- ---- AC
 
 -- the codes 000, 001, 010, 011, 100 of an end, a new value, a run of two or three, sixteen zeros, and one more value
-abbrev five : ℕ → Table
+abbrev pub five : ℕ → Table
 five more = table (0 ∷ 0 ∷ 5 ∷ replicate 13 0) (0x00 ∷ 0x01 ∷ 0x10 ∷ 0xF0 ∷ more ∷ [])
 
 -- a table that holds F0 alone, and one with the code 0 for an end alone
-abbrev onlyF0 : Table
+abbrev pub onlyF0 : Table
 onlyF0 = table (0 ∷ 1 ∷ replicate 14 0) (0xF0 ∷ [])
 
 abbrev onlyEnd : Table
@@ -68,7 +68,7 @@ acOrder =
     ∷ (writeAc 1 1025 (five 0x11) [] 0 refuses 20 at 0)
     ∷ (writeAc 1 1024 (five 0x11) [] 0 refuses 21 at 0)
     -- 21 before 10, 10 before 11, 11 before 19, 19 before 9; the table is tested with no blocks
-    ∷ (writeAc 4 1 noTable [] 0 refuses 21 at 0)
+    ∷ (writeAc 3 1 noTable [] 0 refuses 21 at 0)
     ∷ (writeAc 1 1 noTable (atFive (pos 4096)) 0 refuses 10 at 0)
     ∷ (writeAc 1 1 onlyF0 (atFive (pos 4096)) 0 refuses 11 at 5)
     ∷ (writeAc 1 1 onlyF0 (block (pos 1)) 0 refuses 19 at 1)
@@ -79,8 +79,8 @@ acOrder =
     ∷ (writeAc 1 1 (five 0x11) (atFive (pos 4095)) 0 refuses 9 at 1)
     ∷ (writeAc 1 1 (five 0x11) (atFive (negsuc 4094)) 0 refuses 9 at 1)
     ∷ (writeAc 1 1 (five 0x11) (atFive (negsuc 4095)) 0 refuses 11 at 5)
-    ∷ (writeAc 4 1 (five 0x11) (atFive (pos 32767)) 0 refuses 9 at 1)
-    ∷ (writeAc 4 1 (five 0x11) (atFive (pos 32768)) 0 refuses 11 at 5)
+    ∷ (writeAc 3 1 (five 0x11) (atFive (pos 16383)) 0 refuses 9 at 1)
+    ∷ (writeAc 3 1 (five 0x11) (atFive (pos 16384)) 0 refuses 11 at 5)
     -- "first needed in writing order": the end of block 0 stands before the new value of block 1; 15 zeros and a new value are F1
     ∷ (writeAc 1 2 onlyF0 (zeros 63 ++ block (pos 1)) 0 refuses 19 at 0)
     ∷ (writeAc 1 2 onlyEnd (zeros 63 ++ block (pos 1)) 0 refuses 19 at 1)
@@ -90,7 +90,7 @@ acOrder =
     ∷ []
 
 pub ac-order : Holds acOrder
-unfolding every firstFail orHere inLevel isDc inside firstOutside digits stuffed padded packed codeCount kraft holds distinct goodTable placeOf codeAt word cut acHalf kindOf oneMore ahead quiet plan order emit writeBlock writeBlocks tokens lacking spelled writeAc
+unfolding every firstFail orHere inLevel isDc inside firstOutside digits stuffed padded packed codeCount kraft holds distinct goodTable placeOf codeAt word cut acHalf kindOf oneMore ahead quiet plan order emit writeBlock writeBlocks tokens lacking spelled writtenAc
 ac-order = refl
 
 abbrev acWrites : List (Case ℕ)
@@ -121,7 +121,7 @@ acWrites =
     ∷ []
 
 pub ac-writes : Holds acWrites
-unfolding every firstFail orHere inLevel isDc inside firstOutside digits stuffed padded packed codeCount kraft holds distinct goodTable placeOf codeAt word cut acHalf kindOf oneMore ahead quiet plan order emit writeBlock writeBlocks tokens lacking spelled writeAc
+unfolding every firstFail orHere inLevel isDc inside firstOutside digits stuffed padded packed codeCount kraft holds distinct goodTable placeOf codeAt word cut acHalf kindOf oneMore ahead quiet plan order emit writeBlock writeBlocks tokens lacking spelled writtenAc
 ac-writes = refl
 
 -- r of a run: "2^r + e", r below 15

@@ -1,6 +1,6 @@
--- E2 and E4 to E10: writing an AC plane, with the reader's tasks, chosen by looking ahead. In this order: a value against its half (`kindOf`), what is
+-- E2 and E4 to E11: writing an AC plane, with the reader's tasks, chosen by looking ahead. In this order: a value against its half (`kindOf`), what is
 -- ahead in the block and in later ones (`ahead`, `quiet`), the task to open (`plan`) and its tokens (`emit`), the tokens of a block and of a plane
--- (`writeBlock`, `tokens`), the table (`lacking`, `spelled`), and the call (`writeAc`).
+-- (`writeBlock`, `tokens`), the table (`lacking`, `spelled`), the refusals (`writtenAc`) and the call (`writeAc`).
 -- Case c of the whiteboard (S3), written: 6, -1 and zeros, whose halves are 3, 0 and zeros: `keep false`, `fresh false`, then `still`. Position 1,
 -- nothing open: the new value ahead has 0 zeros before it (a correction does not count), so the task is `walk 0 (some false)`: code 01 and the sign
 -- bit 0; then the 6 puts its correction bit, 0. Position 2 puts nothing, and the task is done. Position 3, nothing open, no new value ahead: `ended 0`,
@@ -22,7 +22,7 @@ use Rattle.bit_rules.specs.Digits.{digits}
 use Rattle.bit_rules.specs.Pack.{bytesOf}
 use Rattle.bit_rules.specs.Table.{Table, goodTable}
 use Rattle.bit_rules.specs.Write.{placeOf, word}
-use Rattle.plane_rules.specs.Plane.{writable}
+use Rattle.plane_rules.specs.Plane.{readable, Writer, ourWriter, writable}
 use Rattle.plane_rules.specs.Task.{Task, walk, ended, pass, over}
 use Rattle.plane_rules.specs.AcRead.{cut}
 
@@ -158,12 +158,17 @@ spelled T (code v ∷ rest) = word T v ++ spelled T rest
 abbrev pub acBytes : ℕ → Table → List ℤ → List ℕ
 acBytes blocks T values = bytesOf (spelled T (tokens blocks values))
 
--- N8, K2, E2: writing: 20, 21, 10, 11, 19, 9
-unfoldable pub writeAc : ℕ → ℕ → Table → List ℤ → ℕ → Verdict ℕ
-writeAc plane blocks T values room =
-    need (every (writable plane blocks)) 20 0
+-- N8, K2, E2, E11: writing: 20, 28, "in plane writing directly after 20", 21, 10, 11, 19, 9
+unfoldable pub writtenAc : Writer → ℕ → ℕ → Table → List ℤ → ℕ → Verdict ℕ
+writtenAc writer plane blocks T values room =
+    need (every (readable plane blocks)) 20 0
+    (need (writable writer plane) 28 0
     (need (eqb (length values) (63 * blocks)) 21 0
     (need (goodTable T) 10 0
     (unless 11 (firstOutside Ac plane values)
     (unless 19 (lacking T (tokens blocks values))
-    (fitting room (acBytes blocks T values))))))
+    (fitting room (acBytes blocks T values)))))))
+
+-- E11: the call
+abbrev pub writeAc : ℕ → ℕ → Table → List ℤ → ℕ → Verdict ℕ
+writeAc plane blocks T values room = writtenAc ourWriter plane blocks T values room

@@ -1,4 +1,4 @@
--- R2 to R4, E2 and E3: DC planes, read and written. "A DC plane is one bit per block: new DC = 2c + bit. Its calls need no table."
+-- R2 to R4, E2, E3 and E11: DC planes, read and written. "A DC plane is one bit per block: new DC = 2c + bit. Its calls need no table."
 use mathlib.Core.Bool.{Bool}
 use mathlib.Core.List.{List, [], _∷_, map}
 use Prim.Native.Nat.{ℕ, _-_, _/_}
@@ -14,7 +14,7 @@ use Rattle.bit_rules.specs.Digits.{bin}
 use Rattle.bit_rules.specs.Source.{Source, start, takeBit}
 use Rattle.bit_rules.specs.Reader.{Reader, _>>=_, done}
 use Rattle.bit_rules.specs.Pack.{bytesOf}
-use Rattle.plane_rules.specs.Plane.{readable, writable, Plane, blocksFrom, closed}
+use Rattle.plane_rules.specs.Plane.{readable, Writer, ourWriter, writable, Plane, blocksFrom, closed}
 
 -- R4: "new DC = 2c + bit"
 unfoldable pub newDc : ℤ → Bool → ℤ
@@ -52,10 +52,15 @@ dcBit value = ltZ (pos 2 *ℤ dcHalf value) value
 abbrev pub dcBytes : List ℤ → List ℕ
 dcBytes values = bytesOf (map dcBit values)
 
--- N8, E2: writing: 20, 21, 11, 9
-unfoldable pub writeDc : ℕ → ℕ → List ℤ → ℕ → Verdict ℕ
-writeDc plane blocks values room =
-    need (every (writable plane blocks)) 20 0
+-- N8, E2, E11: writing: 20, 28, "in plane writing directly after 20", 21, 11, 9
+unfoldable pub writtenDc : Writer → ℕ → ℕ → List ℤ → ℕ → Verdict ℕ
+writtenDc writer plane blocks values room =
+    need (every (readable plane blocks)) 20 0
+    (need (writable writer plane) 28 0
     (need (eqb (length values) blocks) 21 0
     (unless 11 (firstOutside Dc plane values)
-    (fitting room (dcBytes values))))
+    (fitting room (dcBytes values)))))
+
+-- E11: the call
+abbrev pub writeDc : ℕ → ℕ → List ℤ → ℕ → Verdict ℕ
+writeDc plane blocks values room = writtenDc ourWriter plane blocks values room

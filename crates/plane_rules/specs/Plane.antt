@@ -1,5 +1,5 @@
--- What DC and AC planes share: the counts they take (R1, E1), blocks one after another (R3), what must follow the last (R15).
-use mathlib.Core.Bool.{Bool}
+-- What DC and AC planes share: the counts they take (R1, E1), who writes which level (E11), blocks one after another (R3), what must follow the last (R15).
+use mathlib.Core.Bool.{Bool, true}
 use mathlib.Core.List.{List, [], _∷_, _++_}
 use Prim.Native.Nat.{ℕ, zero, suc}
 use lib.Dec.{leb}
@@ -10,13 +10,19 @@ use Rattle.answers.specs.declared.Refusal.{Refusal}
 use Rattle.bit_rules.specs.Source.{Source, Out, got, stopped, onlyPadding}
 use Rattle.bit_rules.specs.Reader.{Reader}
 
--- N14, R1: "Plane j takes level j-1 values to level j; j is 1 to 4"; "0 to 1,024 blocks a call"
+-- N14, R1, E1: "Plane j takes level j-1 values to level j; j is 1 to 4"; "0 to 1,024 blocks a call"; "The writer takes level j values, j 1 to 4"
 abbrev pub readable : ℕ → ℕ → List Bool
 readable plane blocks = leb 1 plane ∷ leb plane 4 ∷ leb blocks 1024 ∷ []
 
--- N14, E1: "The writer takes level j values, j 1 to 4"
-abbrev pub writable : ℕ → ℕ → List Bool
-writable plane blocks = leb 1 plane ∷ leb plane 4 ∷ leb blocks 1024 ∷ []
+-- E11: who writes a plane: our writer, or "the rules of 01, which stay in the definitions for that use"
+pub data Writer : Type 0 where
+  ourWriter : Writer
+  theRules : Writer
+
+-- E11: 28, "level retired": "The writer refuses level 4 from now on."
+abbrev pub writable : Writer → ℕ → Bool
+writable ourWriter plane = leb plane 3
+writable theRules plane = true
 
 -- L2, R3: n blocks of m values
 abbrev pub parts : ℕ → ℕ → List ℤ → List (List ℤ)

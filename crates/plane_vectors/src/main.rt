@@ -279,20 +279,24 @@ fn run_read(
     Finding { good, next }
 }
 
-// A record that writes: behind number, place and second place stand the bytes expected.
-fn run_write(bytes: &[u8], c: Case, at: usize, values: &[i32], coded: &mut [u8]) -> Finding {
+// Writing answers the number, place and second place that stand at a position: these bytes, or a refusal.
+fn answers_writing(
+    bytes: &[u8],
+    c: Case,
+    at: usize,
+    values: &[i32],
+    expected: &[u8],
+    coded: &mut [u8],
+) -> bool {
     let end = bytes.len();
     let number = records::number_at(bytes, at);
     let place = records::number_at(bytes, records::past(end, at, 4));
     let second = records::number_at(bytes, records::past(end, at, 8));
-    let out = records::past(end, at, 12);
-    let expected = records::lent(bytes, out);
-    let next = records::past(end, records::past(end, out, 4), expected.len());
     let room = c.room;
     if coded.len() < room {
-        return failed(next);
+        return false;
     }
-    let good = writes(
+    writes(
         bytes,
         c,
         values,
@@ -301,11 +305,20 @@ fn run_write(bytes: &[u8], c: Case, at: usize, values: &[i32], coded: &mut [u8])
         place,
         second,
         &mut coded[0..room],
-    );
+    )
+}
+
+// A record that writes: behind number, place and second place stand the bytes expected.
+fn run_write(bytes: &[u8], c: Case, at: usize, values: &[i32], coded: &mut [u8]) -> Finding {
+    let end = bytes.len();
+    let out = records::past(end, at, 12);
+    let expected = records::lent(bytes, out);
+    let next = records::past(end, records::past(end, out, 4), expected.len());
+    let good = answers_writing(bytes, c, at, values, expected, coded);
     Finding { good, next }
 }
 
-// A record that does both: the values are written as its data, and the data over the halves are read as the values.
+// A record that does both: the data over the halves are read as the values, and the values are written as its data or refused: number, place and second place are writing's.
 fn run_trip(
     bytes: &[u8],
     c: Case,
@@ -317,14 +330,10 @@ fn run_trip(
 ) -> Finding {
     let next = records::past(bytes.len(), at, 12);
     let n = values.len();
-    let room = c.room;
     if other.len() < n {
         return failed(next);
     }
     if output.len() < n {
-        return failed(next);
-    }
-    if coded.len() < room {
         return failed(next);
     }
     halve(is_ac(c.kind), values, other);
@@ -332,16 +341,7 @@ fn run_trip(
     if !reads(bytes, c, &other[0..n], values, 0, n, 0, &mut output[0..n]) {
         return failed(next);
     }
-    let good = writes(
-        bytes,
-        c,
-        values,
-        data,
-        0,
-        data.len(),
-        0,
-        &mut coded[0..room],
-    );
+    let good = answers_writing(bytes, c, at, values, data, coded);
     Finding { good, next }
 }
 

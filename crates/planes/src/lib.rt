@@ -1,7 +1,7 @@
-// What the calls on planes share: the ranges of plane and blocks, and what must follow the last block (docs/RULES.md, R1, R3, R15, E1).
+// What the calls on planes share: the ranges of plane and blocks, the levels that are written, and what must follow the last block (docs/RULES.md, R1, R3, R15, E1, E11).
 ghost use mathlib.Core.Path.{_≡_};
 ghost use Rattle.laws.specs.Index.{every};
-ghost use Rattle.plane_rules.specs.Plane.{readable, writable};
+ghost use Rattle.plane_rules.specs.Plane.{readable, ourWriter, writable};
 ghost use Rattle.planes.specs.Code.{Closes};
 use answers::Outcome;
 use answers::Refusal;
@@ -13,7 +13,7 @@ pub enum Blocks {
     Refused(Refusal),
 }
 
-// Whether plane and blocks lie in the ranges that a reader takes.
+// Whether plane and blocks lie in the ranges of a plane.
 pub fn readable(plane: u32, blocks: usize) -> bool
     ensures { λ r. ⌜ r ≡ every (readable plane blocks) ⌝ }
 {
@@ -26,11 +26,11 @@ pub fn readable(plane: u32, blocks: usize) -> bool
     blocks <= 1024
 }
 
-// Whether they lie in the ranges that a writer takes.
-pub fn writable(plane: u32, blocks: usize) -> bool
-    ensures { λ r. ⌜ r ≡ every (writable plane blocks) ⌝ }
+// Whether our writer writes this level.
+pub fn writable(plane: u32) -> bool
+    ensures { λ r. ⌜ r ≡ writable ourWriter plane ⌝ }
 {
-    readable(plane, blocks)
+    plane <= 3
 }
 
 // What must follow the last block; `count` values were written.

@@ -21,9 +21,9 @@ use Rattle.box_rules.specs.Text.{line, lines, header, answer, listing, decIn, d
 use Rattle.bit_rules.specs.Source.{afterFF, nextByte, takeFrom, takeBit}
 use Rattle.bit_rules.specs.Table.{table, codeCount, kraft, holds, distinct, goodTable}
 use Rattle.plane_rules.specs.Plane.{closed}
-use Rattle.plane_rules.specs.Dc.{dcBlocks, readDc, writeDc}
+use Rattle.plane_rules.specs.Dc.{dcBlocks, readDc, writtenDc, writeDc}
 use Rattle.plane_rules.specs.AcRead.{readAc}
-use Rattle.plane_rules.specs.AcWrite.{writeAc}
+use Rattle.plane_rules.specs.AcWrite.{writtenAc, writeAc}
 use Rattle.transform_rules.specs.Samples.{blockSamples}
 use Rattle.transform_rules.specs.Picture.{picture}
 use Rattle.transform_rules.specs.Call.{isQuantiser, firstBadQuantiser, inverseTransform}
@@ -147,8 +147,13 @@ module _ (κs : Lfts 4) (a : ArgsD writedc-call.signature κs) (r : ResD writedc
       → (a .1 .0 ≡ 2)
       → (now (a .1 .1 .0) ≡ pos 0 ∷ pos 4096 ∷ [])
       → Refuses 0 11 1 0 (now (a .1 .1 .1 .0)) (now (s .1 .1 .1 .0)) r (now (s .1 .1 .1 .1 .0)) (now (s .1 .1 .1 .1 .1 .0))
-  unfolding writeDc every firstFail orHere inLevel isDc inside firstOutside
+  unfolding writtenDc every firstFail orHere inLevel isDc inside firstOutside
   write-dc-refuses e0 e1 e2 = refuses write-dc-meets (rw (e0, e1, e2))
+
+  -- a block at level 4, whatever its values and the room: 28, place 0
+  pub write-dc-retired : (a .0 ≡ 4) → (a .1 .0 ≡ 1) → Refuses 0 28 0 0 (now (a .1 .1 .1 .0)) (now (s .1 .1 .1 .0)) r (now (s .1 .1 .1 .1 .0)) (now (s .1 .1 .1 .1 .1 .0))
+  unfolding writtenDc every
+  write-dc-retired e0 e1 = refuses write-dc-meets (rw (e0, e1))
 
 -- xt_inverse_transform
 module _ (κs : Lfts 5) (a : ArgsD transform-call.signature κs) (r : ResD transform-call.signature κs) (s : AtExit (endedOf 5 transform-kinds.ps transform-kinds.r) κs) (promise : transform-reads.Learnt κs a r s) where
@@ -210,8 +215,15 @@ module _ (κs : Lfts 6) (a : ArgsD writeac-call.signature κs) (r : ResD writeac
       → (now (a .1 .1 .1 .0) ≡ codesOfT)
       → (now (a .1 .1 .1 .1 .0) ≡ replicate 62 (pos 0) ++ (pos 4096 ∷ []))
       → Refuses 0 11 62 0 (now (a .1 .1 .1 .1 .1 .0)) (now (s .1 .1 .1 .1 .1 .0)) r (now (s .1 .1 .1 .1 .1 .1 .0)) (now (s .1 .1 .1 .1 .1 .1 .1 .0))
-  unfolding countsOfT codesOfT writeAc codeCount kraft holds distinct goodTable every firstFail orHere inLevel isDc inside firstOutside
+  unfolding countsOfT codesOfT writtenAc codeCount kraft holds distinct goodTable every firstFail orHere inLevel isDc inside firstOutside
   write-ac-refuses e0 e1 e2 e3 e4 = refuses write-ac-meets (rw (e0, e1, e2, e3, e4))
+
+  -- a block at level 4, whatever its table, values and room: 28, place 0
+  pub write-ac-retired : (a .0 ≡ 4)
+      → (a .1 .0 ≡ 1)
+      → Refuses 0 28 0 0 (now (a .1 .1 .1 .1 .1 .0)) (now (s .1 .1 .1 .1 .1 .0)) r (now (s .1 .1 .1 .1 .1 .1 .0)) (now (s .1 .1 .1 .1 .1 .1 .1 .0))
+  unfolding writtenAc every
+  write-ac-retired e0 e1 = refuses write-ac-meets (rw (e0, e1))
 
 -- xt_merge
 module _ (κs : Lfts 7) (a : ArgsD merge-call.signature κs) (r : ResD merge-call.signature κs) (s : AtExit (endedOf 7 merge-kinds.ps merge-kinds.r) κs) (promise : merge-reads.Learnt κs a r s) where

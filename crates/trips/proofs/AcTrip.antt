@@ -20,11 +20,11 @@ use Rattle.bit_rules.specs.Source.{Source, start}
 use Rattle.trips.proofs.Trip.{bytes-say, padding-left}
 use Rattle.bit_rules.specs.Table.{Table, goodTable}
 use Rattle.trips.proofs.CodeTrip.{halve}
-use Rattle.plane_rules.specs.Plane.{readable, writable, read, closed}
+use Rattle.plane_rules.specs.Plane.{readable, Writer, writable, read, closed}
 use Rattle.plane_rules.specs.AcRead.{cut, acBlocks, readAc}
-use Rattle.plane_rules.specs.AcWrite.{acHalf, Token, tokens, lacking, spelled, acBytes, writeAc}
+use Rattle.plane_rules.specs.AcWrite.{acHalf, Token, tokens, lacking, spelled, acBytes, writtenAc}
 use Rattle.plane_rules.specs.Levels.{towardZero, atLevel}
-use Rattle.plane_rules.proofs.Ranges.{ranged, in-range, may-write, may-read}
+use Rattle.plane_rules.proofs.Ranges.{ranged, in-range}
 use Rattle.trips.proofs.Closing.{closed-well}
 use Rattle.plane_rules.proofs.Levels.{half-in, Halving, halves-inside, level-full, level-half, level-inside}
 use Rattle.trips.proofs.AcTokens.{spelled-gives, joined, blocks-back}
@@ -97,31 +97,32 @@ ac-trip plane blocks T values space ranges count good inside codes h =
     let l : eqb (length (map acHalf values)) (63 * blocks) ≡ true = eq-eqb (length (map acHalf values)) (63 * blocks) (length-map values acHalf ∙ count) in
     rw (ranges, l, good, halves-inside ac-halving plane values (p .low) inside, le-leb (63 * blocks) space h) c
 
--- so whatever the writer accepts, the reader reads back from the halves
-pub ac-accepted : (plane blocks : ℕ) (T : Table) (values : List ℤ) (room space : ℕ) (bytes : List ℕ) → writeAc plane blocks T values room ≡ given bytes → 63 * blocks ≤ space
+-- so whatever a writer accepts, the reader reads back from the halves
+pub ac-accepted : (writer : Writer) (plane blocks : ℕ) (T : Table) (values : List ℤ) (room space : ℕ) (bytes : List ℕ) → writtenAc writer plane blocks T values room ≡ given bytes → 63 * blocks ≤ space
     → readAc plane blocks T (map acHalf values) bytes space ≡ given values
-unfolding writeAc
-ac-accepted plane blocks T values room space bytes w h =
-    let w20 = need-given (every (writable plane blocks)) 20 0 _ bytes w in
-    let w21 = need-given (eqb (length values) (63 * blocks)) 21 0 _ bytes (w20 .1) in
+unfolding writtenAc
+ac-accepted writer plane blocks T values room space bytes w h =
+    let w20 = need-given (every (readable plane blocks)) 20 0 _ bytes w in
+    let w28 = need-given (writable writer plane) 28 0 _ bytes (w20 .1) in
+    let w21 = need-given (eqb (length values) (63 * blocks)) 21 0 _ bytes (w28 .1) in
     let w10 = need-given (goodTable T) 10 0 _ bytes (w21 .1) in
     let w11 = unless-given 11 (firstOutside Ac plane values) _ bytes (w10 .1) in
     let w19 = unless-given 19 (lacking T (tokens blocks values)) _ bytes (w11 .1) in
     let same : acBytes blocks T values ≡ bytes = fitting-given-same room (acBytes blocks T values) bytes (w19 .1) in
-    rw same at (ac-trip plane blocks T values space (may-read plane blocks (w20 .0)) (eqb-true (length values) (63 * blocks) (w21 .0)) (w10 .0) (w11 .0) (w19 .0) h)
+    rw same at (ac-trip plane blocks T values space (w20 .0) (eqb-true (length values) (63 * blocks) (w21 .0)) (w10 .0) (w11 .0) (w19 .0) h)
 
 -- ---- the AC half of demand 3: k planes on the full values divided by 2^k
 
 module _ (k blocks : ℕ) (few : k ≤ 4) (many : blocks ≤ 1024) (full : List ℤ) (count : length full ≡ 63 * blocks) (range : firstOutside Ac k full ≡ Nothing) where
-  -- each plane is accepted by the writer, with a table that holds every code needed
+  -- each plane is accepted by a writer of its level, with a table that holds every code needed
   module _ (T : Table) (j : ℕ) (l : j < k) (table : goodTable T ≡ true) (codes : lacking T (tokens blocks (atLevel towardZero k full (suc j))) ≡ Nothing) where
-    pub ac-written : (room : ℕ) → length (acBytes blocks T (atLevel towardZero k full (suc j))) ≤ room
-        → writeAc (suc j) blocks T (atLevel towardZero k full (suc j)) room ≡ given (acBytes blocks T (atLevel towardZero k full (suc j)))
-    unfolding writeAc
-    ac-written room fit =
+    pub ac-written : (writer : Writer) (room : ℕ) → writable writer (suc j) ≡ true → length (acBytes blocks T (atLevel towardZero k full (suc j))) ≤ room
+        → writtenAc writer (suc j) blocks T (atLevel towardZero k full (suc j)) room ≡ given (acBytes blocks T (atLevel towardZero k full (suc j)))
+    unfolding writtenAc
+    ac-written writer room w fit =
         let values : List ℤ = atLevel towardZero k full (suc j) in
         let c : eqb (length values) (63 * blocks) ≡ true = eq-eqb (length values) (63 * blocks) (length-map full (towardZero (k - suc j)) ∙ count) in
-        rw (may-write (suc j) blocks (omega arith) (omega arith) many, c, table, level-inside ac-halving k full range (suc j) l, codes) (fits room (acBytes blocks T values) fit)
+        rw (in-range (suc j) blocks (omega arith) (omega arith) many, w, c, table, level-inside ac-halving k full range (suc j) l, codes) (fits room (acBytes blocks T values) fit)
 
     -- and by the reader, over the values of the level below
     pub ac-read : (space : ℕ) → 63 * blocks ≤ space

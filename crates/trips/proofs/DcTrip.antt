@@ -21,10 +21,10 @@ use Rattle.bit_rules.specs.Gives.{Gives}
 use Rattle.trips.proofs.Trip.{bytes-say, padding-left}
 use Rattle.bit_rules.proofs.Digits.{bin-odd}
 use Rattle.trips.proofs.CodeTrip.{halve}
-use Rattle.plane_rules.specs.Plane.{readable, writable, read, onto, closed}
-use Rattle.plane_rules.specs.Dc.{newDc, dcBlocks, readDc, dcHalf, dcBit, dcBytes, writeDc}
+use Rattle.plane_rules.specs.Plane.{readable, Writer, writable, read, onto, closed}
+use Rattle.plane_rules.specs.Dc.{newDc, dcBlocks, readDc, dcHalf, dcBit, dcBytes, writtenDc}
 use Rattle.plane_rules.specs.Levels.{downward, atLevel, accepted, climb}
-use Rattle.plane_rules.proofs.Ranges.{ranged, in-range, may-write, may-read}
+use Rattle.plane_rules.proofs.Ranges.{ranged, in-range}
 use Rattle.plane_rules.proofs.Halves.{bit-up, bit-down}
 use Rattle.trips.proofs.Closing.{closed-well}
 use Rattle.plane_rules.proofs.Levels.{half-in, Halving, halves-inside, level-full, level-half, level-inside, climbed}
@@ -93,16 +93,17 @@ dc-trip plane blocks values space ranges count inside h =
     let below = halves-inside dc-halving plane values (ranged plane blocks ranges .low) inside in
     rw (ranges, l, below, le-leb blocks space h) b
 
--- so whatever the writer accepts, the reader reads back from the halves
-pub dc-accepted : (plane blocks : ℕ) (values : List ℤ) (room space : ℕ) (bytes : List ℕ) → writeDc plane blocks values room ≡ given bytes → blocks ≤ space
+-- so whatever a writer accepts, the reader reads back from the halves
+pub dc-accepted : (writer : Writer) (plane blocks : ℕ) (values : List ℤ) (room space : ℕ) (bytes : List ℕ) → writtenDc writer plane blocks values room ≡ given bytes → blocks ≤ space
     → readDc plane blocks (map dcHalf values) bytes space ≡ given values
-unfolding writeDc
-dc-accepted plane blocks values room space bytes w h =
-    let w20 = need-given (every (writable plane blocks)) 20 0 _ bytes w in
-    let w21 = need-given (eqb (length values) blocks) 21 0 _ bytes (w20 .1) in
+unfolding writtenDc
+dc-accepted writer plane blocks values room space bytes w h =
+    let w20 = need-given (every (readable plane blocks)) 20 0 _ bytes w in
+    let w28 = need-given (writable writer plane) 28 0 _ bytes (w20 .1) in
+    let w21 = need-given (eqb (length values) blocks) 21 0 _ bytes (w28 .1) in
     let w11 = unless-given 11 (firstOutside Dc plane values) _ bytes (w21 .1) in
     let same : dcBytes values ≡ bytes = fitting-given-same room (dcBytes values) bytes (w11 .1) in
-    rw same at (dc-trip plane blocks values space (may-read plane blocks (w20 .0)) (eqb-true (length values) blocks (w21 .0)) (w11 .0) h)
+    rw same at (dc-trip plane blocks values space (w20 .0) (eqb-true (length values) blocks (w21 .0)) (w11 .0) h)
 
 -- ---- the DC half of demand 3: k planes on the full values divided by 2^k
 
@@ -110,13 +111,14 @@ module _ (k blocks : ℕ) (few : k ≤ 4) (many : blocks ≤ 1024) (full : List 
   abbrev pub dcPlane : ℕ → List ℕ
   dcPlane j = dcBytes (atLevel downward k full j)
 
-  -- each plane is accepted by the writer
-  pub dc-written : (j room : ℕ) → j < k → length (dcPlane (suc j)) ≤ room → writeDc (suc j) blocks (atLevel downward k full (suc j)) room ≡ given (dcPlane (suc j))
-  unfolding writeDc
-  dc-written j room l fit =
+  -- each plane is accepted by a writer of its level
+  pub dc-written : (writer : Writer) (j room : ℕ) → writable writer (suc j) ≡ true → j < k → length (dcPlane (suc j)) ≤ room
+      → writtenDc writer (suc j) blocks (atLevel downward k full (suc j)) room ≡ given (dcPlane (suc j))
+  unfolding writtenDc
+  dc-written writer j room w l fit =
       let values : List ℤ = atLevel downward k full (suc j) in
       let c : eqb (length values) blocks ≡ true = eq-eqb (length values) blocks (length-map full (downward (k - suc j)) ∙ count) in
-      rw (may-write (suc j) blocks (omega arith) (omega arith) many, c, level-inside dc-halving k full range (suc j) l) (fits room (dcPlane (suc j)) fit)
+      rw (in-range (suc j) blocks (omega arith) (omega arith) many, w, c, level-inside dc-halving k full range (suc j) l) (fits room (dcPlane (suc j)) fit)
 
   -- and by the reader, over the values of the level below
   pub dc-read : (j space : ℕ) → j < k → blocks ≤ space
