@@ -1,2 +1,3 @@
 pub mod ReadingCases
 pub mod WritingCases
+pub mod StoredCases
