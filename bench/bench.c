@@ -1,6 +1,6 @@
 /* bench: each call of libreader_c beside the plain C version of the same rules, built by gcc and by clang, on the same input in the same run.
  * A line for each: units a second, our time over that of each compiler's plain C, and the ratio of our times at twice the size (2 is linear).
- * The same answer is the same number, place, second place and destination; damaged planes and small files of boxes are compared too. */
+ * The same answer is the same number, place, second place and destination; damaged planes, small files of boxes and small writings of planes are compared too. */
 #include <stdio.h>
 #include <stdlib.h>
 #include <string.h>
@@ -90,9 +90,10 @@ static void compare(const char *name, const char *unit, size_t units, size_t siz
     fflush(stdout);
 }
 
-static uint32_t w_dc(size_t n, uint64_t *p, uint64_t *s) { return xt_write_dc_plane(4, n, full, n, data, sizeof data, p, s); }
+/* plane 4 is read and not written; a plane's bytes do not depend on its number, so what plane 3 gives is read as plane 4 from the halves */
+static uint32_t w_dc(size_t n, uint64_t *p, uint64_t *s) { return xt_write_dc_plane(3, n, full, n, data, sizeof data, p, s); }
 static uint32_t r_dc(size_t n, uint64_t *p, uint64_t *s) { return xt_read_dc_plane(4, n, data, (n + 7) / 8, old, n, out1, n, p, s); }
-static uint32_t w_ac(size_t n, uint64_t *p, uint64_t *s) { return xt_write_ac_plane(4, n, counts, 16, codes, 32, full, 63 * n, data, sizeof data, p, s); }
+static uint32_t w_ac(size_t n, uint64_t *p, uint64_t *s) { return xt_write_ac_plane(3, n, counts, 16, codes, 32, full, 63 * n, data, sizeof data, p, s); }
 static size_t length_for(size_t n) { static size_t whole, half; if (!whole) { uint64_t p, s; w_ac(BLOCKS, &p, &s); whole = p; w_ac(BLOCKS / 2, &p, &s); half = p; w_ac(BLOCKS, &p, &s); } return n == BLOCKS ? whole : half; }
 static uint8_t halfway[1 << 20];
 static const uint8_t *coded_for(size_t n) { return n == BLOCKS ? data : halfway; }
@@ -118,9 +119,9 @@ static uint32_t bx(size_t n, uint64_t *p, uint64_t *s) { made_for(n); return xt_
 static uint32_t ls(size_t n, uint64_t *p, uint64_t *s) { made_for(n); return xt_list_packets(file, file_len, box1, sizeof box1, p, s); }
 
 #define RUNS(by) \
-    static uint32_t by##_w_dc(size_t n, uint64_t *p, uint64_t *s) { return by##_write_dc(4, n, full, n, other, sizeof other, p, s); } \
+    static uint32_t by##_w_dc(size_t n, uint64_t *p, uint64_t *s) { return by##_write_dc(3, n, full, n, other, sizeof other, p, s); } \
     static uint32_t by##_r_dc(size_t n, uint64_t *p, uint64_t *s) { return by##_read_dc(4, n, data, (n + 7) / 8, old, n, out2, n, p, s); } \
-    static uint32_t by##_w_ac(size_t n, uint64_t *p, uint64_t *s) { return by##_write_ac(4, n, counts, 16, codes, 32, full, 63 * n, other, sizeof other, p, s); } \
+    static uint32_t by##_w_ac(size_t n, uint64_t *p, uint64_t *s) { return by##_write_ac(3, n, counts, 16, codes, 32, full, 63 * n, other, sizeof other, p, s); } \
     static uint32_t by##_r_ac(size_t n, uint64_t *p, uint64_t *s) { return by##_read_ac(4, n, counts, 16, codes, 32, coded_for(n), length_for(n), old, 63 * n, out2, 63 * n, p, s); } \
     static uint32_t by##_it(size_t n, uint64_t *p, uint64_t *s) { return by##_inverse_transform(4, n, full, 64 * n, quantisers, 64, out2, 64 * n, p, s); } \
     static uint32_t by##_po(size_t n, uint64_t *p, uint64_t *s) { return owed_by(by##_preview_owes, owed2, n, p, s); } \
@@ -187,7 +188,7 @@ static void growth(void)
 /* ---- damaged planes: no time is taken, only the answers are compared */
 
 enum { TRIED = 20000, FEW = 6, ROOM = 63 * FEW };
-static size_t met[23];
+static size_t met[29];
 
 static void numbers_met(void)
 {
@@ -211,7 +212,7 @@ static int damaged_dc(uint8_t *bytes, size_t n)
 {
     static int32_t halves[ROOM];
     for (size_t i = 0; i < n; i++) halves[i] = full[i] >> 1;
-    xt_write_dc_plane(4, n, full, n, bytes, 2 * ROOM, &place1, &second1);
+    xt_write_dc_plane(3, n, full, n, bytes, 2 * ROOM, &place1, &second1);
     size_t len = damage(bytes, (size_t)place1);
     unwritten();
     uint32_t n1 = xt_read_dc_plane(4, n, bytes, len, halves, n, out1, ROOM, &place1, &second1);
@@ -228,7 +229,7 @@ static int damaged_ac(uint8_t *bytes, size_t n, const int32_t *from, const int32
     /* two codes more than the writer's table, which refinement does not use (15) */
     static uint8_t more[34] = {[32] = 0x02, [33] = 0x35}, lengths[16] = {[5] = 34};
     memcpy(more, codes, 32);
-    xt_write_ac_plane(4, n, counts, 16, codes, 32, from, 63 * n, bytes, 2 * ROOM, &place1, &second1);
+    xt_write_ac_plane(3, n, counts, 16, codes, 32, from, 63 * n, bytes, 2 * ROOM, &place1, &second1);
     size_t len = damage(bytes, (size_t)place1);
     unwritten();
     uint32_t n1 = xt_read_ac_plane(4, n, lengths, 16, more, 34, bytes, len, halves, 63 * n, out1, ROOM, &place1, &second1);
@@ -340,6 +341,90 @@ static void small_files(void)
     numbers_met();
 }
 
+/* ---- small writings, sound or with something wrong, of planes 0 to 6; of these too only the answers are compared */
+
+enum { LITTLE = 512, MUCH = 1 << 17, GUARD = 8 };
+
+/* what is lent to a writer beside the values; behind the room stand bytes that no writer may touch, up to `whole` */
+typedef struct { int dc; uint32_t plane; size_t blocks, len, room, whole, counts_len, codes_len; uint8_t counts[16], codes[32]; } writing;
+typedef uint32_t (*dc_writer)(uint32_t, size_t, const int32_t *, size_t, uint8_t *, size_t, uint64_t *, uint64_t *);
+typedef uint32_t (*ac_writer)(uint32_t, size_t, const uint8_t *, size_t, const uint8_t *, size_t, const int32_t *, size_t, uint8_t *, size_t, uint64_t *, uint64_t *);
+
+static int32_t lent[64 * (BLOCKS + 1)];
+
+/* all codes, beginning at any of them; or some of these; or a bad table */
+static void lend_table(writing *w)
+{
+    uint32_t turn = rnd(32);
+    w->counts_len = 16;
+    w->codes_len = 32;
+    memcpy(w->counts, counts, 16);
+    for (uint32_t i = 0; i < 32; i++) w->codes[i] = codes[(i + turn) % 32];
+    switch (rnd(12)) {
+    case 0: case 1: case 2: w->counts[5] = (uint8_t)(w->codes_len = 1 + rnd(32)); break;
+    case 3: w->codes[rnd(31)] = w->codes[31]; break;
+    case 4: w->counts[rnd(16)]++; break;
+    case 5: w->counts_len = 15; break;
+    case 6: w->counts[5] = 0; w->counts[4] = 32; break; /* the last of 32 codes of five bits is all ones */
+    }
+}
+
+/* few or many zeros among new values and corrections; here and there an end of the level's range, or what is beyond it */
+static void lend_values(const writing *w)
+{
+    int32_t high = 1 << (11 + w->plane), edges[] = {high - 1, 1 - high, -high, high, -high - 1, INT32_MAX, INT32_MIN};
+    uint32_t zeros = rnd(11), strange = rnd(3) ? 0 : 1 + rnd(2);
+    for (size_t i = 0; i < w->len; i++) lent[i] = rnd(10) < zeros ? 0 : (int32_t)rnd(9) - 4;
+    for (; w->len && strange; strange--) lent[rnd((uint32_t)w->len)] = edges[rnd(sizeof edges / sizeof edges[0])];
+}
+
+static void draw(writing *w)
+{
+    static const uint8_t planes[] = {0, 1, 2, 3, 3, 3, 3, 4, 4, 4, 4, 5, 5, 6};
+    w->dc = rnd(3) == 0;
+    w->plane = planes[rnd(sizeof planes)];
+    w->blocks = rnd(40) ? rnd(4) : BLOCKS + rnd(2);
+    w->len = (w->dc ? 1 : 63) * w->blocks;
+    if (rnd(8) == 0) w->len = w->len && rnd(2) ? w->len - 1 : w->len + 1;
+    w->whole = w->blocks < BLOCKS ? LITTLE : MUCH;
+    w->room = rnd(3) ? w->whole - GUARD : rnd((uint32_t)w->len / 3 + 3);
+    lend_table(w);
+    lend_values(w);
+}
+
+static uint32_t written_by(dc_writer dc, ac_writer ac, const writing *w, uint8_t *out, uint64_t *p, uint64_t *s)
+{
+    memset(out, 0x5A, w->whole);
+    if (w->dc) return dc(w->plane, w->blocks, lent, w->len, out, w->room, p, s);
+    return ac(w->plane, w->blocks, w->counts, w->counts_len, w->codes, w->codes_len, lent, w->len, out, w->room, p, s);
+}
+
+static int small_writing(const writing *w)
+{
+    unwritten();
+    uint32_t n1 = written_by(xt_write_dc_plane, xt_write_ac_plane, w, box1, &place1, &second1);
+    met[n1]++;
+    int same = as_our_box(n1, written_by(gcc_write_dc, gcc_write_ac, w, box2, &place2, &second2), w->whole);
+#ifdef BY_CLANG
+    same &= as_our_box(n1, written_by(clang_write_dc, clang_write_ac, w, box2, &place2, &second2), w->whole);
+#endif
+    return same;
+}
+
+static void small_writings(void)
+{
+    writing w;
+    int same = 0;
+    memset(met, 0, sizeof met);
+    for (int t = 0; t < TRIED; t++) {
+        draw(&w);
+        same += small_writing(&w);
+    }
+    bad += same != TRIED;
+    printf("\n%d small writings of planes 0 to 6, %d with the same number, place, second place and destination; numbers met:", TRIED, same);
+    numbers_met();
+}
+
 static void boxes_of(size_t bytes, size_t backwards, size_t longs, const char *name, size_t size)
 {
     each = bytes;
@@ -369,12 +454,18 @@ static void merges(const char *three, const char *one, int steady)
     compare(one, "pixels", PIXELS, PIXELS, mg1, BOTH(mg1), merged1, merged2, 2 * PIXELS);
 }
 
-int main(void)
+/* every code that a plane can need, and values that are in the range of every level */
+static void prepare(void)
 {
     counts[5] = 32;
     for (int r = 0; r < 16; r++) { codes[2 * r] = (uint8_t)(16 * r); codes[2 * r + 1] = (uint8_t)(16 * r + 1); }
     for (int i = 0; i < 64; i++) quantisers[i] = (uint16_t)(1 + rnd(40));
     for (size_t i = 0; i < 64 * BLOCKS; i++) full[i] = rnd(10) < 7 ? 0 : (int32_t)rnd(9) - 4;
+}
+
+int main(void)
+{
+    prepare();
     printf("| call | ours, units/s | unit | our time / gcc -O2 | our time / clang -O3 | at twice the size | same answer |\n|---|---|---|---|---|---|---|\n");
     compare("xt_write_dc_plane, 1,024 blocks", "values", BLOCKS, BLOCKS, w_dc, BOTH(w_dc), data, other, BLOCKS / 8);
     for (size_t i = 0; i < BLOCKS; i++) old[i] = full[i] >> 1;
@@ -383,7 +474,7 @@ int main(void)
     for (size_t i = 0; i < 64 * BLOCKS; i++) old[i] = full[i] / 2;
     compare("xt_write_ac_plane, 1,024 blocks", "values", 63 * BLOCKS, BLOCKS, w_ac, BOTH(w_ac), data, other, 1000);
     length_for(BLOCKS);
-    { uint64_t p, s; xt_write_ac_plane(4, BLOCKS / 2, counts, 16, codes, 32, full, 63 * BLOCKS / 2, halfway, sizeof halfway, &p, &s); w_ac(BLOCKS, &p, &s); }
+    { uint64_t p, s; xt_write_ac_plane(3, BLOCKS / 2, counts, 16, codes, 32, full, 63 * BLOCKS / 2, halfway, sizeof halfway, &p, &s); w_ac(BLOCKS, &p, &s); }
     compare("xt_read_ac_plane, 1,024 blocks", "values", 63 * BLOCKS, BLOCKS, r_ac, BOTH(r_ac), out1, out2, 4 * 63 * BLOCKS);
     compare("xt_inverse_transform, 1,024 blocks", "values", 64 * BLOCKS, BLOCKS, it, BOTH(it), out1, out2, 4 * 64 * BLOCKS);
     for (size_t i = 0; i < 64 * BLOCKS; i++) tables[i] = (uint16_t)(1 + i * i % 251);
@@ -405,6 +496,7 @@ int main(void)
     growth();
     damaged();
     small_files();
+    small_writings();
     printf("\n%d differ\n", bad);
     return bad != 0;
 }

@@ -112,6 +112,7 @@ uint32_t PLAIN(read_dc)(uint32_t plane, size_t blocks, const uint8_t *data, size
 uint32_t PLAIN(write_dc)(uint32_t plane, size_t blocks, const int32_t *values, size_t n, uint8_t *out, size_t room, uint64_t *place, uint64_t *second)
 {
     if (plane < 1 || plane > 4 || blocks > 1024) return refused(20, 0, out, room, place, second);
+    if (plane == 4) return refused(28, 0, out, room, place, second);
     if (n != blocks) return refused(21, 0, out, room, place, second);
     size_t bad = first_outside(values, n, plane, 1);
     if (bad < n) return refused(11, bad, out, room, place, second);
@@ -249,6 +250,7 @@ static unsigned magnitude(int32_t v) { return v < 0 ? 0u - (unsigned)v : (unsign
 uint32_t PLAIN(write_ac)(uint32_t plane, size_t blocks, const uint8_t *counts, size_t nc, const uint8_t *codes, size_t nv, const int32_t *values, size_t n, uint8_t *out, size_t room, uint64_t *place, uint64_t *second)
 {
     if (plane < 1 || plane > 4 || blocks > 1024) return refused(20, 0, out, room, place, second);
+    if (plane == 4) return refused(28, 0, out, room, place, second);
     if (n != 63 * blocks) return refused(21, 0, out, room, place, second);
     if (!good_table(counts, nc, codes, nv)) return refused(10, 0, out, room, place, second);
     size_t bad = first_outside(values, n, plane, 0);

@@ -20,7 +20,7 @@ extern "C" {
 #endif
 
 /* The second place is 0 where its column is empty. The last bit is the last one asked for; its byte is the one that it came
- * from: an FF, never the 00 behind it.
+ * from: an FF, never the 00 behind it. No call answers 23 to 27.
  *
  *   number                     meaning                                                    place                     second place */
 enum {
@@ -46,7 +46,8 @@ enum {
     XT_CODE_LACKING = 19,     /* writer's table lacks a code                               the code's value */
     XT_SETTING = 20,          /* setting or count out of range, or barred by a step        0 */
     XT_LENGTH = 21,           /* a lent input's length is not what the counts ask          0 */
-    XT_QUANTISER = 22         /* quantiser entry not 1..255                                first index */
+    XT_QUANTISER = 22,        /* quantiser entry not 1..255                                first index */
+    XT_RETIRED = 28           /* level retired: plane 4 is read and not written            0 */
 };
 
 /* A short sentence for a number. */
@@ -77,6 +78,7 @@ static inline const char *xt_meaning(uint32_t number)
         "a lent input has the wrong length",
         "a quantiser entry is not 1 to 255"
     };
+    if (number == XT_RETIRED) return "this level is no longer written";
     return number < sizeof meanings / sizeof meanings[0] ? meanings[number] : "no such number";
 }
 
@@ -93,7 +95,9 @@ uint32_t xt_list_packets(const uint8_t *file, size_t file_len, uint8_t *text, si
                          uint64_t *second);
 
 /* ---- refinement planes, 1 to 4. DC: one value a block. AC: 63 values a block, positions 1 to 63, and a code table
- * (16 counts, and as many values). Up to 1,024 blocks. Reading takes level plane-1 to level plane; writing takes level plane. */
+ * (16 counts, and as many values). Up to 1,024 blocks. Reading takes level plane-1 to level plane; writing takes level plane.
+ * Planes 1 to 3 are read and written. Plane 4 is read like them and no longer written: with up to 1,024 blocks both writers
+ * answer XT_RETIRED, whatever values, table and room they are lent. */
 
 uint32_t xt_read_dc_plane(uint32_t plane, size_t blocks, const uint8_t *data, size_t data_len, const int32_t *values,
                           size_t values_len, int32_t *destination, size_t destination_len, uint64_t *place,

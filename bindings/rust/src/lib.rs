@@ -43,7 +43,11 @@ const MEANINGS: [&str; 23] = [
 impl Error {
     /// A short sentence for the number.
     pub fn meaning(&self) -> &'static str {
-        MEANINGS.get(self.number as usize).copied().unwrap_or("no such number")
+        match self.number {
+            // no call answers 23 to 27
+            28 => "this level is no longer written",
+            number => MEANINGS.get(number as usize).copied().unwrap_or("no such number"),
+        }
     }
 }
 
@@ -108,7 +112,7 @@ pub struct Table<'a> {
     pub codes: &'a [u8],
 }
 
-/// A DC plane read: one value a block, level plane-1 to level plane.
+/// A DC plane read, 1 to 4: one value a block, level plane-1 to level plane.
 pub fn read_dc_plane(plane: u32, blocks: usize, data: &[u8], values: &[i32], destination: &mut [i32]) -> Result<usize, Error> {
     let (mut place, mut second) = (0, 0);
     // SAFETY: as in `box_bytes`.
@@ -116,7 +120,7 @@ pub fn read_dc_plane(plane: u32, blocks: usize, data: &[u8], values: &[i32], des
     done(number, place, second)
 }
 
-/// A DC plane written from level `plane` values.
+/// A DC plane written from level `plane` values, `plane` being 1 to 3. A fourth one is read and no longer written (28).
 pub fn write_dc_plane(plane: u32, blocks: usize, values: &[i32], destination: &mut [u8]) -> Result<usize, Error> {
     let (mut place, mut second) = (0, 0);
     // SAFETY: as in `box_bytes`.
@@ -124,7 +128,7 @@ pub fn write_dc_plane(plane: u32, blocks: usize, values: &[i32], destination: &m
     done(number, place, second)
 }
 
-/// An AC plane read: 63 values a block.
+/// An AC plane read, 1 to 4: 63 values a block.
 pub fn read_ac_plane(plane: u32, blocks: usize, table: Table, data: &[u8], values: &[i32], destination: &mut [i32]) -> Result<usize, Error> {
     let (mut place, mut second) = (0, 0);
     // SAFETY: as in `box_bytes`.
@@ -137,7 +141,7 @@ pub fn read_ac_plane(plane: u32, blocks: usize, table: Table, data: &[u8], value
     done(number, place, second)
 }
 
-/// An AC plane written from level `plane` values.
+/// An AC plane written from level `plane` values, `plane` being 1 to 3. A fourth one is read and no longer written (28).
 pub fn write_ac_plane(plane: u32, blocks: usize, table: Table, values: &[i32], destination: &mut [u8]) -> Result<usize, Error> {
     let (mut place, mut second) = (0, 0);
     // SAFETY: as in `box_bytes`.

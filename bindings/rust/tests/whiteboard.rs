@@ -1,4 +1,4 @@
-//! The whiteboard's readings (docs/RULES.md, S1 to S5, S7 and S8), practice beside live (S10) and grey (S11) through the Rust calls, long boxes, what a preview owes, a round trip, and the byte that a refused plane names.
+//! The whiteboard's readings (docs/RULES.md, S1 to S5, S7 and S8), practice beside live (S10) and grey (S11) through the Rust calls, long boxes, what a preview owes, a round trip, level four read and not written, and the byte that a refused plane names.
 use auhowipi::*;
 
 const LPTS: [u8; 4] = *b"LPTS";
@@ -244,6 +244,8 @@ fn every_other_refusal_names_no_byte() {
     assert_eq!(refused(read_dc_plane(1, 1, &[0xBF, 0xFF], &[0], &mut out)), (18, 1, 0));
     assert_eq!(refused(write_dc_plane(1, 8, &[1; 8], &mut bytes)), (9, 2, 0));
     assert_eq!(refused(write_ac_plane(1, 1, coded(&[0x10, 0x01, 0xF0]), &zero, &mut bytes)), (19, 0, 0));
+    assert_eq!(refused(write_dc_plane(4, 1, &[0], &mut bytes)), (28, 0, 0));
+    assert_eq!(refused(write_ac_plane(4, 1, T, &zero, &mut bytes)), (28, 0, 0));
     assert_eq!(refused(list_packets(&picture(&[]), &mut bytes)), (9, 38, 0));
     assert_eq!(refused(inverse_transform(0, 1, &[2048; 64], &[1; 64], &mut [7; 64])), (11, 0, 0));
 }
@@ -256,6 +258,10 @@ fn a_refusal_in_words() {
     assert_eq!(said(&[0xFF, 0x00, 0xFF, 0x00]), "16 bits and no code (14, block 0, byte 2)");
     assert_eq!(said(&[0x43]), "the padding is not ones, or bytes are left (18, place 1)");
     assert_eq!(Error { number: 17, place: 4, second: 9 }.to_string(), "an end run passes the last block (17, block 4, byte 9)");
+    assert_eq!(write_dc_plane(4, 1, &[0], &mut [7]).unwrap_err().to_string(), "this level is no longer written (28, place 0)");
+    let meaning = |number: u32| Error { number, place: 0, second: 0 }.meaning();
+    assert_eq!([22, 28].map(meaning), ["a quantiser entry is not 1 to 255", "this level is no longer written"]);
+    assert_eq!([23, 24, 25, 26, 27, 29, u32::MAX].map(meaning), ["no such number"; 7]);
 }
 
 #[test]
@@ -335,19 +341,117 @@ fn every_code() -> ([u8; 16], Vec<u8>) {
 }
 
 #[test]
-fn four_planes_there_and_back() {
+fn three_planes_there_and_back() {
     let (counts, codes) = every_code();
     let table = Table { counts: &counts, codes: &codes };
     let blocks = 9;
-    let full: Vec<i32> = (0..63 * blocks as i32).map(|i| if i % 5 == 0 { (i * 7919) % 32767 - 16000 } else { i % 3 - 1 }).collect();
-    let level = |j: u32| -> Vec<i32> { full.iter().map(|v| v / (1 << (4 - j))).collect() };
-    for plane in 1..=4 {
+    let full: Vec<i32> = (0..63 * blocks as i32).map(|i| if i % 5 == 0 { (i * 7919) % 32767 - 16383 } else { i % 3 - 1 }).collect();
+    let ac = |j: u32| -> Vec<i32> { full.iter().map(|v| v / (1 << (3 - j))).collect() };
+    let dc = |j: u32| -> Vec<i32> { full.iter().map(|v| v >> (3 - j)).collect() };
+    for plane in 1..=3 {
         let mut bytes = vec![0u8; 100_000];
-        let n = write_ac_plane(plane, blocks, table, &level(plane), &mut bytes).unwrap();
         let mut values = vec![0i32; full.len()];
-        assert_eq!(read_ac_plane(plane, blocks, table, &bytes[..n], &level(plane - 1), &mut values), Ok(full.len()));
-        assert_eq!(values, level(plane));
+        let n = write_ac_plane(plane, blocks, table, &ac(plane), &mut bytes).unwrap();
+        assert_eq!(read_ac_plane(plane, blocks, table, &bytes[..n], &ac(plane - 1), &mut values), Ok(full.len()));
+        assert_eq!(values, ac(plane));
+        let n = write_dc_plane(plane, full.len(), &dc(plane), &mut bytes).unwrap();
+        assert_eq!(read_dc_plane(plane, full.len(), &bytes[..n], &dc(plane - 1), &mut values), Ok(full.len()));
+        assert_eq!(values, dc(plane));
     }
+}
+
+/// What writing a DC plane refuses; a destination of sevens is zeros then.
+fn dc_not_written(plane: u32, blocks: usize, values: &[i32], room: usize) -> (u32, u64, u64) {
+    let mut bytes = vec![7u8; room];
+    let refusal = refused(write_dc_plane(plane, blocks, values, &mut bytes));
+    assert!(bytes.iter().all(|&b| b == 0));
+    refusal
+}
+
+/// The same of an AC plane.
+fn ac_not_written(plane: u32, blocks: usize, table: Table, values: &[i32], room: usize) -> (u32, u64, u64) {
+    let mut bytes = vec![7u8; room];
+    let refusal = refused(write_ac_plane(plane, blocks, table, values, &mut bytes));
+    assert!(bytes.iter().all(|&b| b == 0));
+    refusal
+}
+
+/// A block of these values and zeros.
+fn block(values: &[i32]) -> [i32; 63] {
+    let mut all = [0; 63];
+    all[..values.len()].copy_from_slice(values);
+    all
+}
+
+/// 28 stands directly behind 20: no length, value or room matters to it.
+#[test]
+fn no_fourth_dc_plane_is_written() {
+    let good = [16383, -16384, 5];
+    let mut bytes = [7u8; 3];
+    assert_eq!(write_dc_plane(3, 3, &good, &mut bytes), Ok(1));
+    assert_eq!(bytes, [0xBF, 7, 7]);
+    for (blocks, values, room) in [(3, &good[..], 9), (3, &[32767, -32768, 5], 9), (0, &[], 9), (3, &good[..2], 9), (2, &good, 9), (3, &[5, 32768, -32769], 9), (3, &good, 0), (2, &[32768], 0)] {
+        assert_eq!(dc_not_written(4, blocks, values, room), (28, 0, 0));
+    }
+    assert_eq!(dc_not_written(4, 1024, &[1; 1024], 300), (28, 0, 0));
+    assert_eq!(dc_not_written(4, 1025, &[1; 1025], 300), (20, 0, 0));
+    assert_eq!(dc_not_written(5, 3, &good, 9), (20, 0, 0));
+}
+
+/// The same, and no table matters either.
+#[test]
+fn no_fourth_ac_plane_is_written() {
+    let (good, high, bad, lacking) = (block(&[1]), block(&[0, 32768]), coded(&[0, 1, 1]), coded(&[0x10, 0x01, 0xF0]));
+    let mut bytes = [7u8; 3];
+    assert_eq!(write_ac_plane(3, 1, T, &good, &mut bytes), Ok(1));
+    assert_eq!(bytes, [0x67, 7, 7]);
+    for (blocks, table, values, room) in [
+        (1, T, &good[..], 9),
+        (1, T, &block(&[32767, -32767]), 9),
+        (0, T, &[], 9),
+        (1, T, &good[..62], 9),
+        (1, bad, &good, 9),
+        (1, lacking, &good, 9),
+        (1, T, &high, 9),
+        (1, T, &good, 0),
+        (2, bad, &high, 0),
+    ] {
+        assert_eq!(ac_not_written(4, blocks, table, values, room), (28, 0, 0));
+    }
+    assert_eq!(ac_not_written(4, 1024, T, &[1; 64512], 9), (28, 0, 0));
+    assert_eq!(ac_not_written(4, 1025, T, &[1; 64575], 9), (20, 0, 0));
+    assert_eq!(ac_not_written(5, 1, T, &good, 9), (20, 0, 0));
+}
+
+#[test]
+fn a_stored_fourth_plane_is_read() {
+    // 1, 0, 1 and padding
+    let mut three = [7i32; 4];
+    assert_eq!(read_dc_plane(4, 3, &[0xBF], &[16383, -16384, 2], &mut three), Ok(3));
+    assert_eq!(three, [32767, -32768, 5, 7]);
+    // 01 0 for the new value and 1 for the correction before it, 00 and 0 for the one behind, padding
+    let mut one = [7i32; 63];
+    assert_eq!(read_ac_plane(4, 1, T, &[0x51], &block(&[16383, 0, -16383]), &mut one), Ok(63));
+    assert_eq!(one, block(&[32767, -1, -32766]));
+}
+
+/// A plane's bytes do not depend on its number: those of plane 3, read as plane 4 from the halves, give the same values.
+#[test]
+fn bytes_of_the_third_plane_read_as_the_fourth() {
+    let (counts, codes) = every_code();
+    let table = Table { counts: &counts, codes: &codes };
+    let (blocks, mut bytes) = (9, vec![0u8; 10_000]);
+    let full: Vec<i32> = (0..63 * blocks as i32).map(|i| if i % 4 == 0 { (i * 7919) % 32767 - 16383 } else { i % 3 - 1 }).collect();
+    let mut values = vec![7i32; full.len()];
+    let n = write_ac_plane(3, blocks, table, &full, &mut bytes).unwrap();
+    let halves: Vec<i32> = full.iter().map(|v| v / 2).collect();
+    assert_eq!(read_ac_plane(4, blocks, table, &bytes[..n], &halves, &mut values), Ok(full.len()));
+    assert_eq!(values, full);
+    let n = write_dc_plane(3, full.len(), &full, &mut bytes).unwrap();
+    let halves: Vec<i32> = full.iter().map(|v| v >> 1).collect();
+    values.fill(7);
+    assert_eq!(read_dc_plane(4, full.len(), &bytes[..n], &halves, &mut values), Ok(full.len()));
+    assert_eq!(values, full);
 }
 
 /// Three components with every part of a setting different from every other, so that no two can be exchanged unnoticed.
