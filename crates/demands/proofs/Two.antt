@@ -4,6 +4,7 @@ use mathlib.Core.Bool.{Bool, true}
 use mathlib.Core.List.{List, [], _∷_}
 use mathlib.Core.Option.{none}
 use Prim.Native.Nat.{ℕ, _-_, _*_, _≤_}
+use native.Mathlib.Omega.{arith}
 use borrow.Author.Tests.{eqb-true, eq-eqb, leb-true, le-leb}
 use lib.Dec.{leb, eqb}
 use lib.IntN.{ℤ, pos}
@@ -35,12 +36,17 @@ use Rattle.merge_rules.specs.Call.{matrixCount, mergeCall}
 use Rattle.preview_rules.specs.Owed.{owedBlock}
 use Rattle.preview_rules.specs.Call.{previewOwes}
 use Rattle.demands.specs.One.{Rows}
-use Rattle.demands.specs.Two.{Exactly, Listed, DcRefined, AcRefined, DcCoded, AcCoded, Sampled, Owing, Merged, MergeCalled, DemandTwo}
+use Rattle.demands.specs.Two.{Exactly, Listed, DcRefined, AcRefined, stillWritten, DcCoded, AcCoded, Sampled, Owing, Merged, MergeCalled, DemandTwo}
 use Rattle.demands.proofs.Rows.{Keeps, refuses, Judged, NoZero}
 use Rattle.demands.proofs.Walked.{box-judged}
 use Rattle.demands.proofs.One.{list-judged, list-zero, dc-read-judged, ac-read-judged, dc-write-judged, ac-write-judged, transform-judged, preview-judged, merge-judged, call-judged, call-is, lentMerge, lent-merge, call-zero, box-zero, dc-read-zero, ac-read-zero, dc-write-zero, ac-write-zero, transform-zero, preview-zero, merge-zero}
 
 -- ---- from a verdict to what was written
+
+-- what a call handed out
+pub handed : {A : Type 0} {zero : A} {before after : List A} {answer : Answer} (ys : List A) → Meets zero (given ys) before after answer
+    → (answer .number ≡ 0) × (take (answer .place) after ≡ ys)
+handed {before = before} ys m = (ap (λ (a : Answer). a .number) (m .answered), rw (m .answered, m .held) (take-append-seam ys (drop (length ys) before)))
 
 by-row : {A : Type 0} {table : Rows} {room : ℕ} (r : Refusal) → Keeps {A = A} table room (refused r) → table (r .number) (r .place) (r .second)
 by-row r (refuses t) = t
@@ -49,10 +55,10 @@ module _ {A : Type 0} (zero : A) {Right : List A → Type 0} {table : Rows} (non
   exactly : (v : Verdict A) → Judged table (length before) v → ((ys : List A) → v ≡ given ys → Right ys) → ((ys : List A) → Right ys → v ≡ given ys)
       → (after : List A) (answer : Answer) → Meets zero v before after answer → Exactly Right after answer
   exactly (given ys) j f g after answer m =
-      let w : take (answer .place) after ≡ ys = rw (m .answered, m .held) (take-append-seam ys (drop (length ys) before)) in
+      let w = handed ys m in
       record {
-        sound = λ e. subst Right (sym w) (f ys refl);
-        complete = λ zs r. (ap (λ (a : Answer). a .number) (m .answered), w ∙ same zs (g zs r));
+        sound = λ e. subst Right (sym (w .1)) (f ys refl);
+        complete = λ zs r. (w .0, w .1 ∙ same zs (g zs r));
       }
     where
       same : (zs : List A) → given ys ≡ given zs → ys ≡ zs
@@ -135,6 +141,13 @@ module _ (plane blocks : ℕ) (values : List ℤ) (bytes : List ℕ) (room : ℕ
 
 -- ---- writing planes
 
+-- the test behind 28 and the levels that are still written are the same
+level-told : (plane : ℕ) → writable ourWriter plane ≡ true → stillWritten plane
+level-told plane e = let l : plane ≤ 3 = leb-true plane 3 e in omega arith
+
+level-tested : (plane : ℕ) → stillWritten plane → writable ourWriter plane ≡ true
+level-tested plane l = le-leb plane 3 (omega (arith, l))
+
 module _ (plane blocks : ℕ) (values : List ℤ) (room : ℕ) where
   dc-coded : (ys : List ℕ) → writeDc plane blocks values room ≡ given ys → DcCoded plane blocks values room ys
   unfolding writtenDc
@@ -144,11 +157,11 @@ module _ (plane blocks : ℕ) (values : List ℤ) (room : ℕ) where
       let b = need-given (eqb (length values) blocks) 21 0 _ ys (l .1) in
       let c = unless-given 11 (firstOutside Dc plane values) _ ys (b .1) in
       let h = fitted room (dcBytes values) ys (c .1) in
-      record { counts = a .0; level = leb-true plane 3 (l .0); long = eqb-true (length values) blocks (b .0); ranged = c .0; bytes = h .0; fits = h .1 }
+      record { counts = a .0; level = level-told plane (l .0); long = eqb-true (length values) blocks (b .0); ranged = c .0; bytes = h .0; fits = h .1 }
 
   coded-dc : (ys : List ℕ) → DcCoded plane blocks values room ys → writeDc plane blocks values room ≡ given ys
   unfolding writtenDc
-  coded-dc ys h = rw (h .counts, le-leb plane 3 (h .level), eq-eqb (length values) blocks (h .long), h .ranged) (fits-given room (dcBytes values) ys (h .bytes) (h .fits))
+  coded-dc ys h = rw (h .counts, level-tested plane (h .level), eq-eqb (length values) blocks (h .long), h .ranged) (fits-given room (dcBytes values) ys (h .bytes) (h .fits))
 
   module _ (codes : Table) where
     ac-coded : (ys : List ℕ) → writeAc plane blocks codes values room ≡ given ys → AcCoded plane blocks codes values room ys
@@ -161,12 +174,12 @@ module _ (plane blocks : ℕ) (values : List ℤ) (room : ℕ) where
         let c = unless-given 11 (firstOutside Ac plane values) _ ys (t .1) in
         let d = unless-given 19 (lacking codes (tokens blocks values)) _ ys (c .1) in
         let h = fitted room (acBytes blocks codes values) ys (d .1) in
-        record { counts = a .0; level = leb-true plane 3 (l .0); long = eqb-true (length values) (63 * blocks) (b .0); good = t .0; ranged = c .0; held = d .0; bytes = h .0; fits = h .1 }
+        record { counts = a .0; level = level-told plane (l .0); long = eqb-true (length values) (63 * blocks) (b .0); good = t .0; ranged = c .0; held = d .0; bytes = h .0; fits = h .1 }
 
     coded-ac : (ys : List ℕ) → AcCoded plane blocks codes values room ys → writeAc plane blocks codes values room ≡ given ys
     unfolding writtenAc
     coded-ac ys h =
-        rw (h .counts, le-leb plane 3 (h .level), eq-eqb (length values) (63 * blocks) (h .long), h .good, h .ranged, h .held) (fits-given room (acBytes blocks codes values) ys (h .bytes) (h .fits))
+        rw (h .counts, level-tested plane (h .level), eq-eqb (length values) (63 * blocks) (h .long), h .good, h .ranged, h .held) (fits-given room (acBytes blocks codes values) ys (h .bytes) (h .fits))
 
 -- ---- samples and merged results
 

@@ -76,10 +76,14 @@ pub record Listed (file : List ℕ) (room : ℕ) (ys : List ℕ) : Type 0 where
   pub text : ys ≡ listing file
   pub fits : length ys ≤ room
 
--- D2: "The writer takes level j values, j 1 to 4"; "The writer refuses level 4 from now on."
+-- D2, E11: "The writer refuses level 4 from now on."
+abbrev pub stillWritten : ℕ → Type 0
+stillWritten plane = plane ≤ 3
+
+-- D2: "The writer takes level j values, j 1 to 4", but for level 4
 pub record DcCoded (plane blocks : ℕ) (values : List ℤ) (room : ℕ) (ys : List ℕ) : Type 0 where
   pub counts : every (readable plane blocks) ≡ true
-  pub level : plane ≤ 3
+  pub level : stillWritten plane
   pub long : length values ≡ blocks
   pub ranged : firstOutside Dc plane values ≡ Nothing
   pub bytes : ys ≡ dcBytes values
@@ -88,7 +92,7 @@ pub record DcCoded (plane blocks : ℕ) (values : List ℤ) (room : ℕ) (ys : L
 -- D2: the same for an AC plane, whose table holds every code needed
 pub record AcCoded (plane blocks : ℕ) (codes : Table) (values : List ℤ) (room : ℕ) (ys : List ℕ) : Type 0 where
   pub counts : every (readable plane blocks) ≡ true
-  pub level : plane ≤ 3
+  pub level : stillWritten plane
   pub long : length values ≡ 63 * blocks
   pub good : goodTable codes ≡ true
   pub ranged : firstOutside Ac plane values ≡ Nothing

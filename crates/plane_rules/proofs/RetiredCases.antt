@@ -1,6 +1,6 @@
 -- Level 4 (E11), worked out by hand: our writer refuses it directly behind 20, the rules write it, the readers read it. Assumes nothing.
 use mathlib.Core.Path.{refl}
-use mathlib.Core.List.{List, [], _∷_, _++_}
+use mathlib.Core.List.{List, [], _∷_}
 use Prim.Native.Nat.{ℕ}
 use lib.IntN.{ℤ, pos, negsuc}
 use Rattle.laws.specs.Index.{every}
