@@ -18,8 +18,9 @@ use Rattle.plane_rules.specs.Dc.{writtenDc, writeDc}
 use Rattle.plane_rules.specs.AcWrite.{writtenAc, writeAc}
 use Rattle.trips.proofs.DcTrip.{dc-accepted}
 use Rattle.trips.proofs.AcTrip.{ac-accepted}
+use Rattle.demands.specs.Two.{Handed}
 use Rattle.demands.specs.Three.{Both, levelOf, Provided, together, writePlane}
-use Rattle.demands.specs.Retired.{butLevelFour, LevelFour, NotWritten, Handed, FourShown}
+use Rattle.demands.specs.Retired.{butLevelFour, LevelFour, NotWritten, FourShown}
 use Rattle.demands.proofs.Two.{handed}
 
 -- 28 between 20 and the rest: for plane 4 alone, where 20 is not given

@@ -8,7 +8,7 @@ use native.Mathlib.Omega.{arith}
 use borrow.Author.Tests.{eqb-true, eq-eqb, leb-true, le-leb}
 use lib.Dec.{leb, eqb}
 use lib.IntN.{ℤ, pos}
-use lib.ListN.{length, take, drop}
+use lib.ListN.{length, drop}
 use lib.Seq.{take-append-seam}
 use Rattle.box_rules.specs.Text.{listing, listPackets}
 use Rattle.laws.specs.Index.{every}
@@ -36,7 +36,7 @@ use Rattle.merge_rules.specs.Call.{matrixCount, mergeCall}
 use Rattle.preview_rules.specs.Owed.{owedBlock}
 use Rattle.preview_rules.specs.Call.{previewOwes}
 use Rattle.demands.specs.One.{Rows}
-use Rattle.demands.specs.Two.{Exactly, Listed, DcRefined, AcRefined, stillWritten, DcCoded, AcCoded, Sampled, Owing, Merged, MergeCalled, DemandTwo}
+use Rattle.demands.specs.Two.{Handed, Exactly, Listed, DcRefined, AcRefined, stillWritten, DcCoded, AcCoded, Sampled, Owing, Merged, MergeCalled, DemandTwo}
 use Rattle.demands.proofs.Rows.{Keeps, refuses, Judged, NoZero}
 use Rattle.demands.proofs.Walked.{box-judged}
 use Rattle.demands.proofs.One.{list-judged, list-zero, dc-read-judged, ac-read-judged, dc-write-judged, ac-write-judged, transform-judged, preview-judged, merge-judged, call-judged, call-is, lentMerge, lent-merge, call-zero, box-zero, dc-read-zero, ac-read-zero, dc-write-zero, ac-write-zero, transform-zero, preview-zero, merge-zero}
@@ -45,7 +45,7 @@ use Rattle.demands.proofs.One.{list-judged, list-zero, dc-read-judged, 
 
 -- what a call handed out
 pub handed : {A : Type 0} {zero : A} {before after : List A} {answer : Answer} (ys : List A) → Meets zero (given ys) before after answer
-    → (answer .number ≡ 0) × (take (answer .place) after ≡ ys)
+    → Handed ys after answer
 handed {before = before} ys m = (ap (λ (a : Answer). a .number) (m .answered), rw (m .answered, m .held) (take-append-seam ys (drop (length ys) before)))
 
 by-row : {A : Type 0} {table : Rows} {room : ℕ} (r : Refusal) → Keeps {A = A} table room (refused r) → table (r .number) (r .place) (r .second)

@@ -5,7 +5,7 @@ use mathlib.Core.List.{List, [], _∷_, map}
 use Prim.Native.Nat.{ℕ, _*_, _≤_}
 use lib.Dec.{eqb, leb}
 use lib.IntN.{ℤ, pos}
-use lib.ListN.{length, take, replicate}
+use lib.ListN.{length, replicate}
 use Rattle.laws.specs.Index.{every}
 use Rattle.answers.specs.Verdict.{Verdict, given, refused, refusal, Meets}
 use Rattle.answers.specs.declared.Answer.{Answer}
@@ -14,6 +14,7 @@ use Rattle.plane_rules.specs.Plane.{Writer, theRules}
 use Rattle.plane_rules.specs.Dc.{readDc, dcHalf, writtenDc, writeDc}
 use Rattle.plane_rules.specs.AcRead.{readAc}
 use Rattle.plane_rules.specs.AcWrite.{acHalf, writtenAc, writeAc}
+use Rattle.demands.specs.Two.{Handed}
 use Rattle.demands.specs.Three.{Both, levelOf, Provided, together, writePlane, Refined}
 
 -- D13: "28, level retired, place 0": for plane 4 with no more than 1,024 blocks, whatever else is lent; everywhere else what the rules of 01 say
@@ -45,10 +46,6 @@ pub record NotWritten (before after : List ℕ) (answer : Answer) : Type 0 where
   pub place : answer .place ≡ 0
   pub second : answer .second ≡ 0
   pub zeros : after ≡ replicate (length before) 0
-
--- D13: these values or bytes were handed out
-abbrev pub Handed : {A : Type 0} → List A → List A → Answer → Type 0
-Handed ys after answer = (answer .number ≡ 0) × (take (answer .place) after ≡ ys)
 
 -- D13: a plane of demand 3 up to the third, as our two calls write it
 pub record ByOurCalls (k n : ℕ) (full : Both ℤ) (lent : ℕ → Provided) (demanded : Refined k n full lent) (j : ℕ) : Type 0 where

@@ -41,10 +41,14 @@ use Rattle.merge_rules.specs.Settings.{inRanges, plain, srgbAllowed, lengthsRig
 use Rattle.merge_rules.specs.Picture.{pixelAt, mergedPicture, merge}
 use Rattle.merge_rules.specs.Call.{matrixCount, mergeCall}
 
+-- D2: a call handed these values out
+abbrev pub Handed : {A : Type 0} → List A → List A → Answer → Type 0
+Handed ys after answer = (answer .number ≡ 0) × (take (answer .place) after ≡ ys)
+
 -- D2: what was written is right; and where the rules have values, these were written
 pub record Exactly {A : Type 0} (Right : List A → Type 0) (after : List A) (answer : Answer) : Type 0 where
   pub sound : answer .number ≡ 0 → Right (take (answer .place) after)
-  pub complete : (ys : List A) → Right ys → (answer .number ≡ 0) × (take (answer .place) after ≡ ys)
+  pub complete : (ys : List A) → Right ys → Handed ys after answer
 
 -- ---- boxes: `HandedOut` is P11, "exactly if an ordering of all of them exists .."
 
