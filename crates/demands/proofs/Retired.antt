@@ -8,7 +8,7 @@ use native.Mathlib.Omega.{arith}
 use lib.Dec.{eqb, leb}
 use lib.IntN.{ℤ}
 use lib.ListN.{length}
-use borrow.Author.Tests.{eqb-true, eq-eqb, leb-true, leb-false, le-leb, lt-leb}
+use borrow.Author.Tests.{eqb-true, eq-eqb, ne-eqb, leb-true, leb-false, le-leb, lt-leb}
 use Rattle.laws.specs.Index.{every}
 use Rattle.laws.proofs.Choices.{true-false}
 use Rattle.answers.specs.Verdict.{Verdict, given, refused, refusal, need, Meets}
@@ -77,10 +77,18 @@ four : (blocks : ℕ) (rest : Verdict ℕ) → blocks ≤ 1024 → butLevelFour 
 unfolding every
 four blocks rest few = rw (le-leb blocks 1024 few)
 
+other : (plane blocks : ℕ) (rest : Verdict ℕ) → (plane ≡ 4 → ⊥) → butLevelFour plane blocks rest ≡ rest
+unfolding every
+other plane blocks rest n = rw (ne-eqb plane 4 n)
+
 shown : LevelFour → FourShown
 shown law = record {
   dcRefused = λ blocks values before after answer few m. not-written _ (law .dcWritten 4 blocks values (length before) ∙ four blocks _ few) m;
   acRefused = λ blocks codes values before after answer few m. not-written _ (law .acWritten 4 blocks codes values (length before) ∙ four blocks _ few) m;
+  dcAsRuled = λ plane blocks values before after answer n m.
+      subst (λ (v : Verdict ℕ). Meets 0 v before after answer) (law .dcWritten plane blocks values (length before) ∙ other plane blocks _ n) m;
+  acAsRuled = λ plane blocks codes values before after answer n m.
+      subst (λ (v : Verdict ℕ). Meets 0 v before after answer) (law .acWritten plane blocks codes values (length before) ∙ other plane blocks _ n) m;
   dcRead = λ blocks room values bytes before after answer w fits m. handed-by _ values (law .dcStored theRules 4 blocks values room (length before) bytes w fits) m;
   acRead = λ blocks room codes values bytes before after answer w fits m. handed-by _ values (law .acStored theRules 4 blocks codes values room (length before) bytes w fits) m;
   ours = λ k n full lent demanded j low high own.

@@ -60,6 +60,13 @@ pub record FourShown : Type 0 where
       → Meets 0 (writeDc 4 blocks values (length before)) before after answer → NotWritten before after answer
   pub acRefused : (blocks : ℕ) (codes : Table) (values : List ℤ) (before after : List ℕ) (answer : Answer) → blocks ≤ 1024
       → Meets 0 (writeAc 4 blocks codes values (length before)) before after answer → NotWritten before after answer
+  -- of every other plane a call of ours answers and leaves what the rules say
+  pub dcAsRuled : (plane blocks : ℕ) (values : List ℤ) (before after : List ℕ) (answer : Answer) → (plane ≡ 4 → ⊥)
+      → Meets 0 (writeDc plane blocks values (length before)) before after answer
+      → Meets 0 (writtenDc theRules plane blocks values (length before)) before after answer
+  pub acAsRuled : (plane blocks : ℕ) (codes : Table) (values : List ℤ) (before after : List ℕ) (answer : Answer) → (plane ≡ 4 → ⊥)
+      → Meets 0 (writeAc plane blocks codes values (length before)) before after answer
+      → Meets 0 (writtenAc theRules plane blocks codes values (length before)) before after answer
   -- what the rules write as a fourth plane, a reader that meets its promise hands out
   pub dcRead : (blocks room : ℕ) (values : List ℤ) (bytes : List ℕ) (before after : List ℤ) (answer : Answer)
       → writtenDc theRules 4 blocks values room ≡ given bytes → blocks ≤ length before
