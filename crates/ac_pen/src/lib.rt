@@ -14,7 +14,7 @@ use bit_putter::Putter;
 use laws::Found;
 
 // The putter, and the first code that the table lacks.
-#[derive(Drop)]
+#[derive(Clone, Copy)]
 pub struct Pen {
     pub putter: Putter,
     pub lack: Found,

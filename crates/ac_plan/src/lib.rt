@@ -6,7 +6,7 @@ ghost use Rattle.ac_plan.specs.Code.{kinds_from, kind_blocks, kind_is, still_is,
 use ac_tasks::Job;
 
 // A value against its half: its correction bit, a zero that stays, or a new value with its sign.
-#[derive(Drop)]
+#[derive(Clone, Copy)]
 pub enum Change {
     Kept(bool),
     Still,
@@ -14,7 +14,7 @@ pub enum Change {
 }
 
 // The zeros before the next new value of a block, and its sign; or no new value is left.
-#[derive(Drop)]
+#[derive(Clone, Copy)]
 pub enum Coming {
     Value(usize, bool),
     Quiet,

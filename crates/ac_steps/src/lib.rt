@@ -12,7 +12,7 @@ use ac_values::Fixed;
 use bits::Cursor;
 
 // What a task comes to: it is done, and this is the next position; or the block is over.
-#[derive(Drop)]
+#[derive(Clone, Copy)]
 pub enum Step {
     On(Cursor, usize),
     Out(Block),

@@ -7,7 +7,7 @@ ghost use Rattle.ac_values.specs.Code.{fixed_of, fixing, aimed};
 use bits::{Cursor, Taken};
 
 // A corrected value, or why there is no bit; and the cursor behind it.
-#[derive(Drop)]
+#[derive(Clone, Copy)]
 pub enum Fixed {
     Now(i32, Cursor),
     Stopped(u32, Cursor),

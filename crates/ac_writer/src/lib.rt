@@ -20,28 +20,28 @@ use laws::Found;
 use levels::Part;
 
 // What goes from position to position: the pen, and the task that is open.
-#[derive(Drop)]
+#[derive(Clone, Copy)]
 pub struct State {
     pub pen: Pen,
     pub task: Open,
 }
 
 // The task at a position, told.
-#[derive(Drop)]
+#[derive(Clone, Copy)]
 pub struct Begun {
     pub pen: Pen,
     pub job: Job,
 }
 
 // The putter behind some corrections, and the next position.
-#[derive(Drop)]
+#[derive(Clone, Copy)]
 pub struct Gone {
     pub putter: Putter,
     pub at: usize,
 }
 
 // The pen behind a task, the next position, and what is open there.
-#[derive(Drop)]
+#[derive(Clone, Copy)]
 pub struct Moved {
     pub pen: Pen,
     pub at: usize,

@@ -11,7 +11,7 @@ ghost use Rattle.merge_rules.specs.Steps.{tinted, transform, recolour, first_cen
 use merge_rules::{Colour, Matrix, Setting};
 
 // A number for each of three components.
-#[derive(Drop)]
+#[derive(Clone, Copy)]
 pub struct Three {
     pub first: i64,
     pub second: i64,

@@ -6,7 +6,7 @@ ghost use Rattle.bit_rules.specs.Pack.{stuffed, padded};
 ghost use Rattle.bit_putter.specs.Code.{Sound, Puts, Ends};
 
 // Bytes stored or counted so far, the bits in hand as a number, and how many bits the byte takes after the next one.
-#[derive(Drop)]
+#[derive(Clone, Copy)]
 pub struct Putter {
     pub at: usize,
     pub held: u8,

@@ -7,7 +7,7 @@ ghost use Rattle.bit_rules.specs.Source.{take_bit, only_padding};
 ghost use Rattle.bits.specs.Code.{source_of, taken_of, top_of, none_of, highs};
 
 // The offset of the byte that the last bit asked for came from, bytes read so far, and the unread bits of the last one: `left` of them, the highest of `byte`.
-#[derive(Drop)]
+#[derive(Clone, Copy)]
 pub struct Cursor {
     pub last: usize,
     pub at: usize,
@@ -16,7 +16,7 @@ pub struct Cursor {
 }
 
 // A bit, or why there is none; and the cursor behind it, with the offset of its byte, or of the byte that was missing.
-#[derive(Drop)]
+#[derive(Clone, Copy)]
 pub enum Taken {
     Bit(bool, Cursor),
     Stopped(u32, Cursor),

@@ -7,7 +7,7 @@ ghost use Rattle.bits.specs.Code.{source_of, taken_of, cursor_of};
 use crate::{Cursor, Taken, only_padding, take_bit};
 
 // The data, and the numbers of a cursor in them.
-#[derive(Drop)]
+#[derive(Clone, Copy)]
 pub struct BitReader<'a> {
     pub data: &'a [u8],
     pub last: usize,
@@ -67,7 +67,7 @@ pub fn bit_at(data: &[u8], c: Cursor) -> Taken
 }
 
 // What is asked at the end of a plane: refusal 18's test, and its place, the bytes read.
-#[derive(Drop)]
+#[derive(Clone, Copy)]
 pub struct End {
     pub padding: bool,
     pub seen: usize,

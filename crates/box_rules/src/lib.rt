@@ -2,7 +2,7 @@
 use answers::Refusal;
 
 // P1, P2, P25: what the head of a packet states. Of the stated length of its box, `heading` bytes are the head of the box: 8, or 16 in the long form.
-#[derive(Drop)]
+#[derive(Clone, Copy)]
 pub struct Head {
     pub instance: u16,
     pub number: u32,
@@ -12,7 +12,7 @@ pub struct Head {
 }
 
 // What stands at a position of the file.
-#[derive(Drop)]
+#[derive(Clone, Copy)]
 pub enum Step {
     // The marker DA: the walk ends well.
     End,

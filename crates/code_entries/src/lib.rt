@@ -4,7 +4,7 @@ ghost use Rattle.bit_rules.specs.Table.{table, code_count, good_table};
 ghost use Rattle.code_entries.specs.Code.{Assigned, Entries};
 
 // A code: its length in bits, and the number that they make.
-#[derive(Drop)]
+#[derive(Clone, Copy)]
 pub struct Code {
     pub size: usize,
     pub number: u32,

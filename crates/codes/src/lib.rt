@@ -9,7 +9,7 @@ ghost use Rattle.codes.specs.Code.{coded_of, numbers_of, Prepared};
 use bits::{Cursor, Taken};
 
 // A value, or why there is none; and the cursor behind it.
-#[derive(Drop)]
+#[derive(Clone, Copy)]
 pub enum Coded {
     Value(u8, Cursor),
     Stopped(u32, Cursor),

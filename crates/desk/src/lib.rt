@@ -7,7 +7,7 @@ use answers::Answer;
 use laws::Found;
 
 // How it is used; or a refusal; or so many bytes of the box.
-#[derive(Drop)]
+#[derive(Clone, Copy)]
 pub enum Reply {
     Usage,
     Refused(Answer),

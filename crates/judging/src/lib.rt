@@ -14,7 +14,7 @@ use packets::Next;
 use scans::{Fault, Scan};
 
 // Whether the bytes of a box can be handed out.
-#[derive(Drop)]
+#[derive(Clone, Copy)]
 pub enum Ready {
     Not(Refusal),
     Yes {

@@ -1,7 +1,7 @@
 // The rules of the merge, and the setting that they speak of; no function.
 
 // M13: the base curve of step 2.
-#[derive(Drop)]
+#[derive(Clone, Copy)]
 pub enum Curve {
     Straight,
     Table,
@@ -9,28 +9,28 @@ pub enum Curve {
 }
 
 // M9: identity, or the YCbCr transform of step 1.
-#[derive(Drop)]
+#[derive(Clone, Copy)]
 pub enum Colour {
     Identity,
     Transform,
 }
 
 // M15: whether step 3 has its matrix.
-#[derive(Drop)]
+#[derive(Clone, Copy)]
 pub enum Matrix {
     None,
     On,
 }
 
 // M16: whether a residual is lent.
-#[derive(Drop)]
+#[derive(Clone, Copy)]
 pub enum Residual {
     Absent,
     Present,
 }
 
 // All that is set for a merge. The weights are the matrix, row by row; they are not looked at without one.
-#[derive(Drop)]
+#[derive(Clone, Copy)]
 pub struct Setting {
     pub rb: u32,
     pub rh: u32,

@@ -9,7 +9,7 @@ use answers::{Outcome, Refusal};
 use box_rules::{Head, Step};
 
 // The next packet of a type and instance, with where its payload stands and where to look on.
-#[derive(Drop)]
+#[derive(Clone, Copy)]
 pub enum Next {
     Gone,
     Mine {

@@ -13,7 +13,7 @@ fn brought_down(x: usize, above: usize) -> i32 {
 }
 
 // One entry of a list of values: how many zeros stand before it, the value, and how many bytes it takes.
-#[derive(Drop)]
+#[derive(Clone, Copy)]
 struct Entry {
     gap: usize,
     value: i32,
@@ -74,7 +74,7 @@ fn spread(bytes: &[u8], from: usize, entries: usize, values: &mut [i32]) -> usiz
 }
 
 // A record of the file: the numbers before its values, and where its parts stand.
-#[derive(Drop)]
+#[derive(Clone, Copy)]
 struct Case {
     kind: usize,
     plane: u32,

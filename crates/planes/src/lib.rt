@@ -8,7 +8,7 @@ use answers::{Outcome, Refusal};
 use bits::Cursor;
 
 // What reading the blocks of a plane comes to.
-#[derive(Drop)]
+#[derive(Clone, Copy)]
 pub enum Blocks {
     Read(Cursor),
     Refused(Refusal),

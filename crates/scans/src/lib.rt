@@ -8,7 +8,7 @@ use box_rules::Head;
 use packets::Next;
 
 // What one pass over the packets of a type and instance finds. `above` is the number behind the last one, `end` where it stopped.
-#[derive(Drop)]
+#[derive(Clone, Copy)]
 pub struct Scan {
     pub n: usize,
     pub total: usize,
@@ -20,7 +20,7 @@ pub struct Scan {
 }
 
 // What is wrong with the sequence numbers.
-#[derive(Drop)]
+#[derive(Clone, Copy)]
 pub enum Fault {
     Fine,
     Twice(usize),

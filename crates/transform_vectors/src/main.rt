@@ -2,7 +2,7 @@
 use test_rules::Finding;
 
 // A record of the file: the numbers before its lists, how long these are, and where they stand.
-#[derive(Drop)]
+#[derive(Clone, Copy)]
 struct Case {
     refinement: u32,
     blocks: usize,

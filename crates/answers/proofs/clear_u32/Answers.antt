@@ -1,0 +1,15 @@
+-- `answers::clear_u32` meets its contract: behind i elements the destination begins with i zeros. Assumes nothing.
+use borrow.Author.Rules.{rules}
+use Prim.Native.Nat.{◌-◌}
+use lib.ListN.{length}
+use Rattle.answers.proofs.Laws.{Cleared, clear_start, clear_turn, clear_end}
+use Rattle.answers.proofs.clear_u32.Goals as goal
+
+pub loop-i-init : goal.loop-i-init
+loop-i-init c = clear_start _ _
+
+pub loop-i-preserved : goal.loop-i-preserved
+loop-i-preserved c = clear_turn c.loop-i.invariant c.loop-i-test.true
+
+pub returns : goal.returns
+returns c = clear_end c.loop-i.invariant c.loop-i-test.false
