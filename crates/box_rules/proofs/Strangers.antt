@@ -50,7 +50,8 @@ module _ (kind instance : ℕ) where
   unfolding mine packets_of
   either_way (packed fill p) (packed fill' q) a = swap_own (is_mine kind instance p.head) (is_mine kind instance q.head) p q (own a)
   either_way (packed fill p) (other fill' marker contents) a = self (own (packed fill p ∷ a))
-  either_way (other fill marker contents) y a = self (own (y ∷ a))
+  either_way (other fill marker contents) (packed fill' p) a = self (own (packed fill' p ∷ a))
+  either_way (other fill marker contents) (other fill' marker' contents') a = self (own a)
 
   keep_own : (x : Bool) (p : Packet) {a b : List Packet} → Reordered a b → Reordered (cond x (p ∷ a) a) (cond x (p ∷ b) b)
   keep_own true p h = keep h

@@ -13,11 +13,11 @@ use Rattle.ac_reader.proofs.read_block.Statement.{statement}
 use Rattle.ac_reader.proofs.read_block.Tie as tie
 
 abbrev invariant-loop : tie.invariant-loop
-invariant-loop counts codes numbers «data» left values destination₀ cursor₀ task₀ i₀ destination cursor task i =
+invariant-loop counts codes «data» left values destination₀ cursor₀ task₀ i₀ destination cursor task i =
     At «data» (table counts codes) left values destination (open_of task₀) (open_of task) cursor₀ cursor i
 
 abbrev decreases-loop : tie.decreases-loop
-decreases-loop counts codes numbers «data» left values destination₀ cursor₀ task₀ i₀ destination cursor task i = length values - i
+decreases-loop counts codes «data» left values destination₀ cursor₀ task₀ i₀ destination cursor task i = length values - i
 
 loop-holds : tie.Need-loop-init invariant-loop decreases-loop
 loop-holds c = at_first c.before.before.before.requires.1.1

@@ -12,11 +12,11 @@ use Rattle.ac_reader.proofs.read_blocks.Statement.{statement}
 use Rattle.ac_reader.proofs.read_blocks.Tie as tie
 
 abbrev invariant-loop : tie.invariant-loop
-invariant-loop blocks counts codes numbers «data» values destination₀ cursor₀ task₀ block₀ at₀ destination cursor task block at =
+invariant-loop blocks counts codes «data» values destination₀ cursor₀ task₀ block₀ at₀ destination cursor task block at =
     Behind «data» (table counts codes) blocks values destination₀ destination task cursor block at
 
 abbrev decreases-loop : tie.decreases-loop
-decreases-loop blocks counts codes numbers «data» values destination₀ cursor₀ task₀ block₀ at₀ destination cursor task block at =
+decreases-loop blocks counts codes «data» values destination₀ cursor₀ task₀ block₀ at₀ destination cursor task block at =
     blocks - block
 
 loop-holds : tie.Need-loop-init invariant-loop decreases-loop
@@ -53,8 +53,8 @@ read-block-requires c κs =
     (at_entry_lem.requires.0, (small_part at (at + 63 - at) a.values.now at_entry_lem.requires.1.0, mid_len at (at + 63) at-loop.loop.destination (room c.before.before) ∙ sym (mid_len at (at + 63) a.values.now (within c.before.before))))
 
 -- as many values come back as were lent
-long : (c : tie.After-read-block invariant-loop decreases-loop) → length c.read-block.new.1.1.1.1.1.1.1.1.0 ≡ c.before.before.before.before.loop.at + 63 - c.before.before.before.before.loop.at
-long c = c.read-block.auto.1.1.1.1.1.1.1.1.0 ∙ mid_len c.before.before.before.before.loop.at (c.before.before.before.before.loop.at + 63) c.before.before.before.before.loop.destination (room c.before.before.before)
+long : (c : tie.After-read-block invariant-loop decreases-loop) → length c.read-block.new.1.1.1.1.1.1.1.0 ≡ c.before.before.before.before.loop.at + 63 - c.before.before.before.before.loop.at
+long c = c.read-block.auto.1.1.1.1.1.1.1.0 ∙ mid_len c.before.before.before.before.loop.at (c.before.before.before.before.loop.at + 63) c.before.before.before.before.loop.destination (room c.before.before.before)
 
 returns : tie.Need-returns invariant-loop decreases-loop
 unfolding block_of
@@ -63,7 +63,7 @@ returns c =
     let at-loop-test = at-read-block.before.before.before in
     let at-loop = at-loop-test.before in
     let at_entry_lem = at-loop.before.before.before.before in
-    behind_stopped at-loop.loop.invariant at-loop-test.loop-test.true at_entry_lem.requires.1.1.1 at-read-block.read-block.new.1.1.1.1.1.1.1.1.0 (long at-read-block) (sym at-read-block.read-block.ensures ∙ ap (block_of _ _) c.before.read.given.1)
+    behind_stopped at-loop.loop.invariant at-loop-test.loop-test.true at_entry_lem.requires.1.1.1 at-read-block.read-block.new.1.1.1.1.1.1.1.0 (long at-read-block) (sym at-read-block.read-block.ensures ∙ ap (block_of _ _) c.before.read.given.1)
 
 loop-again : tie.Need-loop-preserved invariant-loop decreases-loop
 unfolding block_of

@@ -6,7 +6,6 @@ use Rattle.laws.specs.Index.{every}
 use Rattle.answers.proofs.Laws.{tried_refused}
 use Rattle.levels.proofs.Ranges.{all_small}
 use Rattle.bit_rules.specs.Table.{table, good_table}
-use Rattle.bit_rules.proofs.Tables as tables
 use Rattle.plane_rules.specs.Plane.{readable}
 use Rattle.plane_rules.specs.AcRead.{read_ac}
 use Rattle.plane_rules.proofs.Ranges.{Ranged, ranged}
@@ -68,33 +67,24 @@ returns-5 c =
     tried_refused c.refuse5.ensures
     (rw (counts c.before.before.before.before.before.before.before.before, eq-eqb _ _ at-if2.if2.false, tabled c.before.before.before.before.before, sym at-first-outside.first-outside.ensures ∙ at-enum-told.enum_told.given.1, lt-leb _ _ c.before.if4.true))
 
-put-numbers-requires : tie.Need-put-numbers-requires
-put-numbers-requires c κs =
-    let g = tables.good _ (tabled c.before.before.before.before.before) in
-    (search rules, (g.sixteen, g.room, omega (arith, g.all, g.bytes)))
-
 read-blocks-requires : tie.Need-read-blocks-requires
 read-blocks-requires c κs =
-    let at-numbers = c.before.before.before in
-    let at-if4 = at-numbers.before.before in
-    let at-enum-told = at-if4.before in
+    let at-enum-told = c.before.before in
     let at-first-outside = at-enum-told.before.before in
-    let at-if3 = at-first-outside.before in
-    let at-if2 = at-if3.before.before in
-    let r = good at-if2.before in
-    (record { good = tabled at-if3; made = at-numbers.put-numbers.ensures }, (all_small _ _ _ (omega arith) (sym at-first-outside.first-outside.ensures ∙ at-enum-told.enum_told.given.1), (at-if2.if2.false, at-if4.if4.false)))
+    let at-if2 = at-first-outside.before.before.before in
+    let r = good c.before.before.before.before.before.before.before.before in
+    (tabled c.before.before.before.before.before, (all_small _ _ _ (omega arith) (sym at-first-outside.first-outside.ensures ∙ at-enum-told.enum_told.given.1), (at-if2.if2.false, c.before.if4.false)))
 
 returns-6 : tie.Need-returns-6
 unfolding read_ac
 returns-6 c =
     let at-read-blocks = c.before.before in
-    let at-if4 = at-read-blocks.before.before.before.before.before.before in
+    let at-if4 = at-read-blocks.before.before in
     let at-enum-told = at-if4.before in
     let at-first-outside = at-enum-told.before.before in
-    let at-if3 = at-first-outside.before in
-    let at-if2 = at-if3.before.before in
-    rw (counts at-if2.before, eq-eqb _ _ at-if2.if2.false, tabled at-if3, sym at-first-outside.first-outside.ensures ∙ at-enum-told.enum_told.given.1, le-leb _ _ at-if4.if4.false)
-    (closing at-read-blocks.read-blocks.ensures (omega (arith, at-read-blocks.read-blocks.auto.1.1.1.1.1.1.0, at-if4.if4.false)) c.close-plane.ensures)
+    let at-if2 = at-first-outside.before.before.before in
+    rw (counts c.before.before.before.before.before.before.before.before.before.before.before, eq-eqb _ _ at-if2.if2.false, tabled c.before.before.before.before.before.before.before.before, sym at-first-outside.first-outside.ensures ∙ at-enum-told.enum_told.given.1, le-leb _ _ at-if4.if4.false)
+    (closing at-read-blocks.read-blocks.ensures (omega (arith, at-read-blocks.read-blocks.auto.1.1.1.1.1.0, at-if4.if4.false)) c.close-plane.ensures)
 
 pub try-read-ac-spec : {M : Type 1} → statement M
 try-read-ac-spec =
@@ -118,8 +108,6 @@ try-read-ac-spec =
     (λ c. search rules)
     (λ c κs. search rules)
     returns-5
-    (λ c. search rules)
-    put-numbers-requires
     read-blocks-requires
     (λ c κs. search rules)
     (λ c. search rules)

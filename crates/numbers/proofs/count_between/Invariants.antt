@@ -1,0 +1,17 @@
+-- What the loops of `numbers::count_between` keep, and what goes down.
+use Rattle.packets.proofs.Meeting.{met, gone}
+use Rattle.numbers.proofs.Chosen.{between_turn, between_end}
+use Rattle.numbers.proofs.Meeting.{numbers_met, numbers_gone}
+use Rattle.box_rules.specs.Numbers.{numbers_from, within, between}
+use lib.ListN.{length}
+use Prim.Native.Nat.{◌+◌, ◌-◌, ◌≤◌}
+use mathlib.Core.Path.{◌≡◌}
+use native.Mathlib.Omega.{arith}
+use borrow.Author.Rules.{rules}
+use Rattle.numbers.proofs.count_between.Given as goal
+
+abbrev pub invariant-loop-head : goal.invariant-loop-head
+invariant-loop-head l = (l.n + between l.lo l.hi (numbers_from l.file l.kind l.instance l.at) ≡ between l.lo l.hi (numbers_from l.file l.kind l.instance 2)) × (l.n ≤ l.at)
+
+abbrev pub decreases-loop-head : goal.decreases-loop-head
+decreases-loop-head l = length l.file - l.at

@@ -1,0 +1,21 @@
+-- `numbers::least_twice` meets its contract.
+use Rattle.numbers.proofs.Chosen.{drop_next}
+use Rattle.box_rules.proofs.Counts.{twice_turn, twice_end}
+use Rattle.box_rules.specs.Numbers.{least, first_twice}
+use lib.ListN.{length, drop, drop_of_length-le}
+use Prim.Native.Nat.{◌-◌, ◌≤◌}
+use mathlib.Core.Path.{◌≡◌, refl}
+use native.Mathlib.Omega.{arith}
+use borrow.Author.Rules.{rules}
+use Rattle.numbers.proofs.least_twice.Goals as goal
+
+pub loop-i-init : goal.loop-i-init
+unfolding least
+loop-i-init c = (refl, omega arith)
+
+pub loop-i-preserved : goal.loop-i-preserved
+loop-i-preserved c = let e = drop_next c.args.held.now c.loop-i.i (search rules) in
+    (twice_turn _ _ c.loop-i.invariant.0 e (rw c.?Stands-from.ensures at c.lower-w.ensures), omega arith)
+
+pub returns : goal.returns
+returns c = twice_end _ _ c.loop-i.invariant.0 (drop_of_length-le c.args.held.now {i = c.loop-i.i} (omega arith))

@@ -1,0 +1,17 @@
+-- What the loops of `numbers::past_all` keep, and what goes down.
+use Rattle.packets.proofs.Meeting.{met, gone}
+use Rattle.numbers.proofs.Chosen.{past_turn, past_end}
+use Rattle.numbers.proofs.Meeting.{numbers_met, numbers_gone}
+use Rattle.box_rules.specs.Numbers.{numbers_from, count}
+use lib.ListN.{length}
+use Prim.Native.Nat.{ℕ, ◌-◌, ◌≤◌}
+use mathlib.Core.Path.{◌≡◌}
+use native.Mathlib.Omega.{arith}
+use borrow.Author.Rules.{rules}
+use Rattle.numbers.proofs.past_all.Given as goal
+
+abbrev pub invariant-loop-head : goal.invariant-loop-head
+invariant-loop-head l = (l.m ≤ 4294967296) × ((q : ℕ) → l.m ≤ q → count q (numbers_from l.file l.kind l.instance l.at) ≡ count q (numbers_from l.file l.kind l.instance 2))
+
+abbrev pub decreases-loop-head : goal.decreases-loop-head
+decreases-loop-head l = length l.file - l.at

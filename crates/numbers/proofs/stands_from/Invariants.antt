@@ -1,0 +1,16 @@
+-- What the loops of `numbers::stands_from` keep, and what goes down.
+use Rattle.numbers.proofs.Chosen.{drop_next}
+use Rattle.box_rules.proofs.Counts.{count_turn, count_end}
+use Rattle.box_rules.specs.Numbers.{count}
+use lib.ListN.{length, drop, drop_of_length-le}
+use Prim.Native.Nat.{◌+◌, ◌-◌, ◌≤◌}
+use mathlib.Core.Path.{◌≡◌}
+use native.Mathlib.Omega.{arith}
+use borrow.Author.Rules.{rules}
+use Rattle.numbers.proofs.stands_from.Given as goal
+
+abbrev pub invariant-loop-i : goal.invariant-loop-i
+invariant-loop-i l = (l.n + count l.q (drop l.i l.held) ≡ count l.q (drop l.from l.held)) × (l.n ≤ length l.held) × (l.n + l.from ≤ l.i)
+
+abbrev pub decreases-loop-i : goal.decreases-loop-i
+decreases-loop-i l = length l.held - l.i

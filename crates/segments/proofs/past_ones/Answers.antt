@@ -1,0 +1,17 @@
+-- `segments::past_ones` meets its contract. The run from m on ends where the run from `at` on ends.
+use borrow.Author.Rules.{rules}
+use Prim.Native.Nat.{◌+◌, ◌-◌}
+use mathlib.Core.Path.{◌≡◌, sym, ◌∙◌}
+use lib.ListN.{length, drop}
+use Rattle.box_rules.specs.Walk.{ones}
+use Rattle.box_rules.proofs.Runs.{ones_on, ones_off, ones_end}
+use Rattle.segments.proofs.past_ones.Goals as goal
+
+pub returns-then-file-m : goal.returns-then-file-m
+returns-then-file-m c = ones_off _ _ (search rules) c.if-file-m.true ∙ c.loop-m.invariant
+
+pub loop-m-preserved : goal.loop-m-preserved
+loop-m-preserved c = sym (ones_on _ _ (search rules) c.if-file-m.false) ∙ c.loop-m.invariant
+
+pub returns : goal.returns
+returns c = ones_end _ _ (search rules) ∙ c.loop-m.invariant
