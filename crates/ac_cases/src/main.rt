@@ -1,4 +1,6 @@
 // Readings of one AC block, case c of the whiteboard (S3) first: a line for each, with the number, the place, the second place, and the values at positions 1, 2, 17 and 63.
+#![tactic(auto)]
+
 fn say(text: &[u8]) {
     io::write_all(1, text);
 }

@@ -1,4 +1,6 @@
 // Tokens of an AC plane put by a pen that keeps the first code that the table lacks (docs/RULES.md, E8 to E10).
+#![tactic(auto)]
+
 ghost use Rattle.std.specs.Prelude.{◌≡◌, [], ◌∷◌, ◌^◌, ◌≤◌, ◌<◌};
 ghost use Rattle.laws.specs.declared.Found.TheVariants.{At};
 ghost use Rattle.bit_putter.specs.Code.{Sound};

@@ -1,4 +1,6 @@
 // What the AC writer sees in its values (docs/RULES.md, E4 to E8).
+#![tactic(auto)]
+
 ghost use Rattle.std.specs.Prelude.{◌≡◌, ◌*◌, ◌≤◌, length};
 ghost use Rattle.plane_rules.specs.AcWrite as written;
 ghost use Rattle.ac_plan.specs.Code.{kinds_from, kind_blocks, kind_is, still_is, coming_is, Planned};

@@ -1,4 +1,6 @@
 // What a task of an AC plane does at the positions of a block, in reading: corrections, zeros, and the zero behind them (docs/RULES.md, R6 to R13).
+#![tactic(auto)]
+
 ghost use Rattle.std.specs.Prelude.{◌≡◌, ◌≤◌, length};
 ghost use Rattle.std.proofs.Math.Option.{some};
 ghost use Rattle.planes.specs.Code.{Small};

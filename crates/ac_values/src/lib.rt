@@ -1,4 +1,6 @@
 // One value of an AC block, in reading: corrected by a bit, left, or set (docs/RULES.md, R6 to R13).
+#![tactic(auto)]
+
 ghost use Rattle.std.specs.Prelude.{◌≡◌, ◌≤◌, nat_abs};
 ghost use Rattle.bit_rules.specs.Source.{take_bit};
 ghost use Rattle.bits.specs.Code.{source_of};

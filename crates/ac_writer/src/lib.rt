@@ -1,4 +1,6 @@
 // AC planes written (docs/RULES.md, E1 to E11): one pass through the blocks, position by position.
+#![tactic(auto)]
+
 ghost use Rattle.std.specs.Prelude.{◌≡◌, Bool, true, ℕ, ◌+◌, ◌*◌, ◌^◌, ◌≤◌, ◌<◌, length};
 ghost use Rattle.answers.specs.Verdict.{unless, fitting, Meets, Tried};
 ghost use Rattle.bit_putter.specs.Code.{Sound};

@@ -1,4 +1,6 @@
 // Writes of AC planes, each a line: its name, the number, the place, the second place, and the first four bytes of the destination, which holds 9s before.
+#![tactic(auto)]
+
 fn say(text: &[u8]) {
     io::write_all(1, text);
 }

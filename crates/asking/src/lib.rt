@@ -1,4 +1,6 @@
 // What the words of `box_out` ask for.
+#![tactic(auto)]
+
 ghost use Rattle.std.specs.Prelude.{◌≡◌, ◌≤◌, ◌<◌};
 ghost use Rattle.asking.specs.Words.{read_from, type_of, instance_of};
 ghost use Rattle.asking.specs.Words.{digit as Words·digit};

@@ -1,4 +1,6 @@
 // The base of one pixel (docs/RULES.md, M9 to M15): steps 1 to 3 of the merge, each a function or some.
+#![tactic(auto)]
+
 ghost use Rattle.std.specs.Prelude.{◌≡◌, ◌≤◌, nat_abs};
 ghost use Rattle.merge_rules.specs.Near.{clip, top};
 ghost use Rattle.merge_rules.specs.Curves.{curved};

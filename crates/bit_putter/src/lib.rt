@@ -1,4 +1,6 @@
 // Bytes out of bits, highest bit first, with 00 after FF and padding (docs/RULES.md, B7).
+#![tactic(auto)]
+
 ghost use Rattle.std.specs.Prelude.{◌≡◌, [], ◌∷◌, ◌+◌, ◌-◌, ◌*◌, ◌%◌, ◌^◌, ◌≤◌, ◌<◌, set, length};
 ghost use Rattle.std.proofs.lemmas.List.Edits.{sets};
 ghost use Rattle.bit_rules.specs.Digits.{digits};

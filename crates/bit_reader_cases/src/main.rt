@@ -1,5 +1,7 @@
 // Bits taken one by one through a reader that holds its data: a line for each case. It has each bit with the offset of the byte it came from (1@0), and the number
 // that is given, where the data end or break with the offset told (12@1), and the bytes read.
+#![tactic(auto)]
+
 use bits::{Cursor, Taken};
 
 fn say(text: &[u8]) {

@@ -1,1 +1,2 @@
 // The rules of bits, bytes and code tables; no function.
+#![tactic(auto)]

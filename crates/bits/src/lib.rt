@@ -1,4 +1,6 @@
 // Bits out of coded bytes, highest bit first, with 00 after FF (docs/RULES.md, B1 to B6, B8).
+#![tactic(auto)]
+
 pub mod reader;
 
 ghost use Rattle.std.specs.Prelude.{◌≡◌};

@@ -1,5 +1,7 @@
 // Hands out the box of a type and instance, the two arguments, of the file on standard input, of 2 MiB at most. A refusal is one line
 // on standard error, and nothing on standard output.
+#![tactic(auto)]
+
 fn file_room() -> [u8; 2097153] {
     [0u8; 2097153]
 }

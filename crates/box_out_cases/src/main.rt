@@ -1,5 +1,7 @@
 // Replies of `box_out`, what it says on either side written here on standard output: the box of case a, also in the long form, each kind of
 // refusal that has a line, a file that is too long, and words that ask for nothing.
+#![tactic(auto)]
+
 fn say(text: &[u8]) {
     io::write_all(1, text);
 }

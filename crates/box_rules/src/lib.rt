@@ -1,4 +1,6 @@
 // The rules of packets, boxes and the listing, and what they speak of; no function.
+#![tactic(auto)]
+
 use answers::Refusal;
 
 // P1, P2, P25: what the head of a packet states. Of the stated length of its box, `heading` bytes are the head of the box: 8, or 16 in the long form.

@@ -1,4 +1,6 @@
 // Runs the vectors that tools/vectors/boxes.py made through `xt_box_bytes`: a line for each group.
+#![tactic(auto)]
+
 use answers::Answer;
 use test_rules::Finding;
 

@@ -1,4 +1,6 @@
 // One box assembled from its packets (docs/RULES.md, P4 to P12): judged, and its bytes handed out.
+#![tactic(auto)]
+
 ghost use Rattle.std.specs.Prelude.{length};
 ghost use Rattle.answers.specs.Verdict.{Meets, Tried};
 ghost use Rattle.box_rules.specs.Box.{box_bytes};

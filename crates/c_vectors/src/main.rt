@@ -1,5 +1,7 @@
 // Runs the cases of tools/vectors/calls.py through the calls for C themselves, and writes number, place, second place and the whole destination, a case a line:
 // the merge in all its modes, then transforms, then what previews owe.
+#![tactic(auto)]
+
 ghost use Rattle.std.specs.Prelude.{◌<◌, ◌≤◌};
 
 // Number i of a case.

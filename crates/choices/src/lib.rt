@@ -1,4 +1,6 @@
 // What the numbers that C passes choose for a merge (docs/RULES.md, C5 to C7), and the merge by them.
+#![tactic(auto)]
+
 ghost use Rattle.std.specs.Prelude.{◌≡◌, length};
 ghost use Rattle.answers.specs.Verdict.{Meets};
 ghost use Rattle.merge_rules.specs.Call.{colour_of, curve_of, matrix_of, residual_of, known, matrix_count, weights_of, setting_number, merge_call};

@@ -1,4 +1,6 @@
 // The codes that T.81, Annex C, assigns, as entries of a writer's table (docs/RULES.md, K3).
+#![tactic(auto)]
+
 ghost use Rattle.std.specs.Prelude.{◌≡◌, true, ◌<◌, length};
 ghost use Rattle.bit_rules.specs.Table.{table, code_count, good_table};
 ghost use Rattle.code_entries.specs.Code.{Assigned, Entries};

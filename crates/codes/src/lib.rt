@@ -1,4 +1,6 @@
 // Code tables of T.81, Annex C: validity, reading a code (docs/RULES.md, K1, K2, K4 to K6).
+#![tactic(auto)]
+
 ghost use Rattle.std.specs.Prelude.{◌≡◌, true, ◌<◌, length, drop};
 ghost use Rattle.bits.specs.Code.{source_of};
 ghost use Rattle.bit_rules.specs.Table.{table, code_count, kraft, holds, distinct, good_table};

@@ -1,4 +1,6 @@
 // The bytes of a box put into its destination, in file order or by number (docs/RULES.md, P10).
+#![tactic(auto)]
+
 ghost use Rattle.std.specs.Prelude.{◌≡◌, ◌+◌, ◌≤◌, ◌<◌, length, take, drop};
 ghost use Rattle.box_rules.specs.Box.{joined_from, joined};
 ghost use Rattle.box_rules.specs.Order.{payloads};

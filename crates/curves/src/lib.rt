@@ -1,4 +1,6 @@
 // The base curve of the merge's step 2: straight, by a lent table, or by the inverse sRGB table.
+#![tactic(auto)]
+
 ghost use Rattle.std.specs.Prelude.{◌≡◌, ◌+◌, ◌^◌, ◌<◌, ◌≤◌, pos, nat_abs, length, get_or};
 ghost use Rattle.merge_rules.specs.Near.{top};
 ghost use Rattle.merge_rules.specs.Srgb.{srgb};

@@ -1,4 +1,6 @@
 // DC planes read: one value a block, one bit a value (docs/RULES.md, R1 to R4).
+#![tactic(auto)]
+
 ghost use Rattle.std.specs.Prelude.{◌≡◌, ◌≤◌, pos, nat_abs, length};
 ghost use Rattle.answers.specs.Verdict.{Meets, Tried};
 ghost use Rattle.bit_rules.specs.Source.{start};

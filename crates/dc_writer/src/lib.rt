@@ -1,4 +1,6 @@
 // DC planes written: what each value is more than twice its half (docs/RULES.md, E1 to E3, E11).
+#![tactic(auto)]
+
 ghost use Rattle.std.specs.Prelude.{◌≡◌, map, ◌≤◌, length};
 ghost use Rattle.answers.specs.Verdict.{Meets, Tried};
 ghost use Rattle.bit_putter.specs.Code.{new_putter, Puts};

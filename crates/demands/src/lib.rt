@@ -1,1 +1,2 @@
 // No code: specs/ holds the user's demands as statements over the definitions, proofs/ their proofs.
+#![tactic(auto)]

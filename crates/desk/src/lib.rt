@@ -1,4 +1,6 @@
 // What `box_out` does with its words and its file, and what it says on which side.
+#![tactic(auto)]
+
 ghost use Rattle.std.specs.Prelude.{◌≡◌};
 ghost use Rattle.asking.specs.Words.{type_of, instance_of};
 ghost use Rattle.desk.specs.Desk.{reply_to, served, Served, Replies};

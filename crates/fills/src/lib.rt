@@ -1,4 +1,6 @@
 // The samples of a merged picture put into the destination (docs/RULES.md, M1 to M18): pixel by pixel, by whatever curve is set.
+#![tactic(auto)]
+
 ghost use Rattle.std.specs.Prelude.{◌≡◌, ◌++◌, ◌<◌, ◌≤◌, length, drop};
 ghost use Rattle.merge_rules.specs.declared.Curve.TheVariants.{Straight, Srgb};
 ghost use Rattle.merge_rules.specs.Pixels.{single};

@@ -1,4 +1,6 @@
 // A block's samples from its 64 products (docs/RULES.md, T7 to T9): the kernel, the double sum, the rounding.
+#![tactic(auto)]
+
 ghost use Rattle.std.specs.Prelude.{◌≡◌, ◌++◌, ◌+◌, ◌^◌, ◌<◌, ◌≤◌, pos, nat_abs, length, take, drop};
 ghost use Rattle.transform_rules.specs.Cosines.{kernel, kernel_table};
 ghost use Rattle.transform_rules.specs.Samples.{product, row_sum, double_sum, rounded, sample, block_samples, Products};

@@ -1,4 +1,6 @@
 // Lists files that are made here, and then the file on standard input: a picture by the reference software.
+#![tactic(auto)]
+
 fn show(file: &[u8]) {
     let mut text = [0u8; 131072];
     let a = listing_text::list_packets(file, &mut text);

@@ -1,4 +1,6 @@
 // The listing of a file's packets as text (docs/RULES.md, P13 to P19).
+#![tactic(auto)]
+
 ghost use Rattle.std.specs.Prelude.{◌≡◌, [], ◌∷◌, ◌+◌, ◌≤◌, ◌<◌, length};
 ghost use Rattle.answers.specs.Verdict.{Meets, Tried};
 ghost use Rattle.box_rules.specs.Walk.{steps_from};

@@ -1,4 +1,6 @@
 // The merge to 9 to 16 bits (docs/RULES.md, M1 to M18): a picture of one or three components, and the public call.
+#![tactic(auto)]
+
 ghost use Rattle.std.specs.Prelude.{length};
 ghost use Rattle.answers.specs.Verdict.{Meets, Tried};
 ghost use Rattle.merge_rules.specs.Picture.{merge};

@@ -1,4 +1,5 @@
 // The rules of the merge, and the setting that they speak of; no function.
+#![tactic(auto)]
 
 // M13: the base curve of step 2.
 #[derive(Clone, Copy)]

@@ -1,5 +1,7 @@
 // Runs the merge on the cases that tools/vectors/merge.py computed with exact fractions, and writes number, place, second place and the whole
 // destination, a case a line.
+#![tactic(auto)]
+
 ghost use Rattle.std.specs.Prelude.{◌<◌, ◌≤◌};
 
 use answers::Answer;

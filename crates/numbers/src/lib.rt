@@ -1,5 +1,7 @@
 // The sequence numbers of the packets of one type and instance: which is the smallest that stands twice (6, docs/RULES.md, P7).
 // The search goes by windows of numbers, from the smallest on, each with as many packets at most as a small array holds.
+#![tactic(auto)]
+
 ghost use Rattle.std.specs.Prelude.{◌≡◌, cond, ℕ, ◌+◌, ◌≤◌, ◌<◌, length, take, drop, eqb};
 ghost use Rattle.box_rules.specs.Numbers.{numbers_from, count, least, first_twice, between};
 ghost use Rattle.numbers.specs.Code.{chosen, TwiceIn};

@@ -1,4 +1,6 @@
 // The walk over a file's segments with a quick look at the usual packet, and the packets of one type and instance (docs/RULES.md, W1 to W9, P1 to P4).
+#![tactic(auto)]
+
 ghost use Rattle.std.specs.Prelude.{◌≡◌, true, ◌+◌, ◌<◌, length};
 ghost use Rattle.box_rules.specs.Walk.{step_at, steps_from, walk, walk_from, ending};
 ghost use Rattle.box_rules.specs.Walk.{begins as Walk·begins};

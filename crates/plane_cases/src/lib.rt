@@ -1,1 +1,2 @@
 // Readings and writings of AC planes by computation. No function.
+#![tactic(auto)]

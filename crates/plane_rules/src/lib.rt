@@ -1,1 +1,2 @@
 // The rules of refinement planes, DC and AC, read and written; no function.
+#![tactic(auto)]

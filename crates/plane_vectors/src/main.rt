@@ -1,4 +1,6 @@
 // Runs the vectors that tools/vectors/planes.py made through the calls on planes: a line for each group.
+#![tactic(auto)]
+
 use answers::Answer;
 use test_rules::Finding;
 

@@ -1,4 +1,6 @@
 // What the calls on planes share: the ranges of plane and blocks, the levels that are written, and what must follow the last block (docs/RULES.md, R1, R3, R15, E1, E11).
+#![tactic(auto)]
+
 ghost use Rattle.std.specs.Prelude.{◌≡◌};
 ghost use Rattle.laws.specs.Index.{every};
 ghost use Rattle.plane_rules.specs.Plane.{readable, our_writer, writable};

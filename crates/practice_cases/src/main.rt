@@ -1,5 +1,7 @@
 // The pictures of S10 (demands/specs/Practice) through `box_bytes`, three lines each: LPTS, 1 into six bytes and into three, and LPTS, 2.
 // A line is the picture's name, instance and room, the number, the place, the second place, and the six bytes of the destination, which were 46.
+#![tactic(auto)]
+
 ghost use Rattle.std.specs.Prelude.{◌≡◌, [], get_or};
 ghost use Rattle.demands.specs.Practice.{pictures};
 

@@ -1,4 +1,6 @@
 // What a preview owes to the full picture at each place of a block (docs/RULES.md, V1 to V4): the weights by rows of frequencies, and of one quarter of the block.
+#![tactic(auto)]
+
 ghost use Rattle.std.specs.Prelude.{◌≡◌, ◌++◌, ◌+◌, ◌-◌, ◌*◌, ◌^◌, ◌<◌, ◌≤◌, length, get_or, drop};
 ghost use Rattle.laws.specs.Apart.{apart_rounded};
 ghost use Rattle.answers.specs.Verdict.{Meets, Tried};

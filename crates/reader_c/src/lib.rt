@@ -1,5 +1,7 @@
 // The public calls for C and Rust (docs/RULES.md, C1 to C7): thin, with the same promises. A slice passes as a pointer and then a length in elements;
 // the number is returned, and the place and the second place are written through the last two parameters.
+#![tactic(auto)]
+
 ghost use Rattle.std.specs.Prelude.{◌≡◌, pos, length};
 ghost use Rattle.answers.specs.Verdict.{Meets};
 ghost use Rattle.box_rules.specs.Box.{box_bytes};

@@ -1,4 +1,6 @@
 // The fields of a record of vectors: numbers, bytes and lists behind their counts.
+#![tactic(auto)]
+
 ghost use Rattle.std.specs.Prelude.{◌≡◌, ◌<◌, length, get_or};
 ghost use Rattle.laws.specs.Index.{tab};
 ghost use Rattle.test_rules.specs.Fields.{past, pair_at, number_at, part, lent, lowered, value_at, size_at};

@@ -1,4 +1,6 @@
 // What one pass over the packets of a box sees: how many, how long, whether they agree and in which order their numbers stand (docs/RULES.md, P4, P6 to P9).
+#![tactic(auto)]
+
 ghost use Rattle.std.specs.Prelude.{◌≡◌, false, cond, ◌+◌, ◌≤◌, ◌<◌};
 ghost use Rattle.box_rules.specs.Walk.{walk, walk_from, ending};
 ghost use Rattle.box_rules.specs.Box.{alike as Box·alike};

@@ -1,4 +1,6 @@
 // One segment of a file, and the packet in it, by the full rules (docs/RULES.md, W2, W4 to W9, P1 to P3, P25).
+#![tactic(auto)]
+
 ghost use Rattle.std.specs.Prelude.{◌≡◌, ◌+◌, ◌≤◌, ◌<◌, length, drop};
 ghost use Rattle.box_rules.specs.Walk.{ones, head_at, long_head_at, held_at, packet_at, whole_at, sized_at, step_at};
 ghost use Rattle.box_rules.specs.Walk.{be16 as Walk·be16, be32 as Walk·be32, be64 as Walk·be64, barred as Walk·barred, tagged as Walk·tagged};

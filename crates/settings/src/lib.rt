@@ -1,4 +1,6 @@
 // What a merge may be set to and must be lent: the tests behind its refusals 20, 21 and 11.
+#![tactic(auto)]
+
 ghost use Rattle.std.specs.Prelude.{◌≡◌, ◌≤◌, length};
 ghost use Rattle.laws.specs.First.{first_fail};
 ghost use Rattle.merge_rules.specs.Curves.{entries};

@@ -1,4 +1,6 @@
 // How the calls of records came out: what a call must leave, whether it was right, and the tally of each group.
+#![tactic(auto)]
+
 ghost use Rattle.std.specs.Prelude.{◌≡◌, ◌-◌, pos, length, eqb};
 ghost use Rattle.laws.specs.First.{first_fail};
 ghost use Rattle.test_rules.specs.Wanted.{wanted, is_wanted, same_value, right as Wanted·right};

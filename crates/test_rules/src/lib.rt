@@ -1,4 +1,5 @@
 // The rules of records of vectors and of tallies, and what they speak of; no function.
+#![tactic(auto)]
 
 // A record was run: whether it was right, and where the next one stands.
 #[derive(Clone, Copy)]

@@ -1,4 +1,6 @@
 // Dequantising and the inverse transform of a picture's blocks (docs/RULES.md, T1 to T9).
+#![tactic(auto)]
+
 ghost use Rattle.std.specs.Prelude.{◌≡◌, ◌++◌, ◌+◌, ◌*◌, ◌<◌, ◌≤◌, pos, nat_abs, length, take, drop};
 ghost use Rattle.answers.specs.Verdict.{Meets, Tried};
 ghost use Rattle.transform_rules.specs.Samples.{block_samples};

@@ -1,1 +1,2 @@
 // The rules of the inverse transform; no function.
+#![tactic(auto)]

@@ -1,4 +1,6 @@
 // Runs the transform on the records that tools/vectors/transform.py computed by itself: a line for each group.
+#![tactic(auto)]
+
 use test_rules::Finding;
 
 // A record of the file: the numbers before its lists, how long these are, and where they stand.

@@ -1,4 +1,6 @@
 // Windows of sequence numbers: where each packet of a window stands, and the smallest number that is missing (7, docs/RULES.md, P8).
+#![tactic(auto)]
+
 ghost use Rattle.std.specs.Prelude.{◌≡◌, min, ◌+◌, ◌≤◌, ◌<◌, length, get_or, replicate, ltb};
 ghost use Rattle.laws.specs.First.{first_fail};
 ghost use Rattle.box_rules.specs.Numbers.{numbers_from, missing_from};

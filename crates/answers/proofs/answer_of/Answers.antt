@@ -1,7 +1,6 @@
 -- `answers::answer_of` meets its contract. Assumes nothing.
 use mathlib.Core.Path.{sym, ap}
 use Rattle.answers.specs.Verdict.{answer_of}
-use borrow.Author.Rules.{rules}
 use Rattle.answers.proofs.answer_of.Goals as goal
 
 pub returns-in-Given : goal.returns-in-Given

@@ -1,9 +1,8 @@
 -- What the loops of `answers::clear_i32` keep, and what goes down.
-use borrow.Author.Rules.{rules}
 use Prim.Native.Nat.{◌-◌}
 use lib.IntN.{pos}
 use lib.ListN.{length}
-use Rattle.answers.proofs.Laws.{Cleared, clear_start, clear_turn, clear_end}
+use Rattle.answers.proofs.Laws.{Cleared}
 use Rattle.answers.proofs.clear_i32.Given as goal
 
 abbrev pub invariant-loop-i : goal.invariant-loop-i

@@ -1,8 +1,7 @@
 -- What the loops of `answers::clear_u16` keep, and what goes down.
-use borrow.Author.Rules.{rules}
 use Prim.Native.Nat.{◌-◌}
 use lib.ListN.{length}
-use Rattle.answers.proofs.Laws.{Cleared, clear_start, clear_turn, clear_end}
+use Rattle.answers.proofs.Laws.{Cleared}
 use Rattle.answers.proofs.clear_u16.Given as goal
 
 abbrev pub invariant-loop-i : goal.invariant-loop-i

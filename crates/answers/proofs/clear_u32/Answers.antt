@@ -1,8 +1,5 @@
 -- `answers::clear_u32` meets its contract: behind i elements the destination begins with i zeros. Assumes nothing.
-use borrow.Author.Rules.{rules}
-use Prim.Native.Nat.{◌-◌}
-use lib.ListN.{length}
-use Rattle.answers.proofs.Laws.{Cleared, clear_start, clear_turn, clear_end}
+use Rattle.answers.proofs.Laws.{clear_start, clear_turn, clear_end}
 use Rattle.answers.proofs.clear_u32.Goals as goal
 
 pub loop-i-init : goal.loop-i-init
