@@ -13,6 +13,9 @@ pub loop-i-init : goal.loop-i-init
 unfolding least
 loop-i-init c = (refl, omega arith)
 
+pub overflow_cast-q : goal.overflow_cast-q
+overflow_cast-q c = omega (arith, c.shared_slice_known-1.given c.loop-i.i)
+
 pub loop-i-preserved : goal.loop-i-preserved
 loop-i-preserved c = let e = drop_next c.args.held.now c.loop-i.i (search rules) in
     (twice_turn _ _ c.loop-i.invariant.0 e (rw c.?Stands-from.ensures at c.lower-w.ensures), omega arith)

@@ -20,3 +20,4 @@ returns c = λ e. record {
   marker = c.if-file-at-2.false;
   four = c.if-file-at-ne74.false;
   five = eqb-true _ _ e;
+}

@@ -9,6 +9,9 @@ use Rattle.packets.proofs.mine_here.Goals as goal
 pub returns-then-len-eq0 : goal.returns-then-len-eq0
 returns-then-len-eq0 c = λ z. absurd (omega arith)
 
+pub overflow_add-at : goal.overflow_add-at
+overflow_add-at c = let p = c.packet_here-len.ensures (omega arith) in omega arith
+
 pub head_at-requires : goal.head_at-requires
 head_at-requires c = let p = c.packet_here-len.ensures (omega arith) in omega arith
 

@@ -1,0 +1,21 @@
+-- `boxes::try_box` meets its contract: nothing is written before all is judged.
+use Rattle.answers.proofs.Laws.{tried_refused}
+use Rattle.boxes.proofs.Handing.{number_room, put_tried, order_room, order_tried, ready_yes, ready_not}
+use mathlib.Core.Path.{refl}
+use borrow.Author.Rules.{rules}
+use Rattle.boxes.proofs.try_box.Goals as goal
+
+pub put_in_order-requires : goal.put_in_order-requires
+put_in_order-requires c = order_room (ready_yes _ _ _ c.judged.ensures c.in-Yes.is) c.if-ordered.true
+
+pub returns-then-ordered : goal.returns-then-ordered
+returns-then-ordered c = order_tried (ready_yes _ _ _ c.judged.ensures c.in-Yes.is) c.if-ordered.true _ _ c.put_in_order.ensures
+
+pub put_by_number-requires : goal.put_by_number-requires
+put_by_number-requires c = number_room (ready_yes _ _ _ c.judged.ensures c.in-Yes.is)
+
+pub returns-in-Not : goal.returns-in-Not
+returns-in-Not c = tried_refused refl (ready_not _ _ _ c.judged.ensures c.in-Not.is)
+
+pub returns-else-ordered : goal.returns-else-ordered
+returns-else-ordered c = put_tried (ready_yes _ _ _ c.judged.ensures c.in-Yes.is) _ _ c.put_by_number.ensures

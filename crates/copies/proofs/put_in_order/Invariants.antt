@@ -1,0 +1,17 @@
+-- What the loops of `copies::put_in_order` keep, and what goes down.
+use Rattle.packets.proofs.Meeting.{met, gone}
+use Rattle.copies.proofs.Puts.{Writing, write_start, write_done, payload_turn, payloads_none}
+use Rattle.box_rules.specs.Order.{payloads}
+use Rattle.scans.specs.Code.{mine_of}
+use Rattle.box_rules.specs.Packets.{mine_from}
+use lib.ListN.{length}
+use Prim.Native.Nat.{◌-◌}
+use native.Mathlib.Omega.{arith}
+use borrow.Author.Rules.{rules}
+use Rattle.copies.proofs.put_in_order.Given as goal
+
+abbrev pub invariant-loop-destination : goal.invariant-loop-destination
+invariant-loop-destination l = Writing l.destination l.to (payloads (mine_from l.file l.kind l.instance l.at)) l.initial.destination 0 (payloads (mine_of l.file l.kind l.instance))
+
+abbrev pub decreases-loop-destination : goal.decreases-loop-destination
+decreases-loop-destination l = length l.file - l.at

@@ -1,0 +1,29 @@
+-- `copies::put_window` meets its contract: what is left to write here is the window at the start.
+use Rattle.packets.proofs.Meeting.{met, gone}
+use Rattle.copies.proofs.Windows.{joined_none, window_start, place_there, window_turn}
+use Rattle.copies.proofs.Puts.{Writing, write_done}
+use Rattle.box_rules.specs.Box.{joined_from}
+use Rattle.scans.specs.Code.{mine_of}
+use Prim.Native.Nat.{◌+◌, ◌-◌, ◌≤◌}
+use native.Mathlib.Omega.{arith}
+use borrow.Author.Rules.{rules}
+use Rattle.copies.proofs.put_window.Goals as goal
+
+pub loop-i-init : goal.loop-i-init
+loop-i-init c = (window_start _ _ _ _ _ c.requires.fits, omega arith)
+
+pub returns-in-Gone : goal.returns-in-Gone
+returns-in-Gone c = absurd (place_there c.locate.ensures c.requires c.loop-i.i c.loop-i-test.true (search rules) (gone _ _ _ _ c.next_mine.ensures c.in-Gone.is))
+
+pub copy_part-requires : goal.copy_part-requires
+copy_part-requires c = let m = met _ _ _ _ c.next_mine.ensures c.in-Mine.is in (omega arith, (window_turn c.locate.ensures c.requires c.loop-i.i c.loop-i-test.true (search rules) c.loop-i.invariant.0 m).0)
+
+pub overflow_add-end : goal.overflow_add-end
+overflow_add-end c = let m = met _ _ _ _ c.next_mine.ensures c.in-Mine.is in
+    omega (arith, c.?well-formed, (window_turn c.locate.ensures c.requires c.loop-i.i c.loop-i-test.true (search rules) c.loop-i.invariant.0 m).0, c.loop-i.invariant.0.size)
+
+pub loop-i-preserved : goal.loop-i-preserved
+loop-i-preserved c = ((window_turn c.locate.ensures c.requires c.loop-i.i c.loop-i-test.true (search rules) c.loop-i.invariant.0 (met _ _ _ _ c.next_mine.ensures c.in-Mine.is)).1 _ c.copy_part.ensures, omega arith)
+
+pub returns : goal.returns
+returns c = write_done c.loop-i.invariant.0 (joined_none _ _ _ (omega arith))

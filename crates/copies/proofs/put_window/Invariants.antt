@@ -1,0 +1,16 @@
+-- What the loops of `copies::put_window` keep, and what goes down.
+use Rattle.packets.proofs.Meeting.{met, gone}
+use Rattle.copies.proofs.Windows.{joined_none, window_start, place_there, window_turn}
+use Rattle.copies.proofs.Puts.{Writing, write_done}
+use Rattle.box_rules.specs.Box.{joined_from}
+use Rattle.scans.specs.Code.{mine_of}
+use Prim.Native.Nat.{◌+◌, ◌-◌, ◌≤◌}
+use native.Mathlib.Omega.{arith}
+use borrow.Author.Rules.{rules}
+use Rattle.copies.proofs.put_window.Given as goal
+
+abbrev pub invariant-loop-i : goal.invariant-loop-i
+invariant-loop-i l = Writing l.destination l.end (joined_from (l.k - l.i) (l.passed + 1 + l.i) (mine_of l.file l.kind l.instance)) l.initial.destination l.to (joined_from l.k (l.passed + 1) (mine_of l.file l.kind l.instance)) × (l.i ≤ l.k)
+
+abbrev pub decreases-loop-i : goal.decreases-loop-i
+decreases-loop-i l = l.k - l.i

@@ -1,0 +1,27 @@
+-- `judging::judged` meets its contract: the walk behind the last packet ends as the whole walk.
+use Prim.Native.Nat.{ℕ}
+use Rattle.answers.specs.Verdict.{Verdict}
+use Rattle.scans.specs.Code.{mine_of}
+use Rattle.judging.specs.Code.{ReadyIs}
+use Rattle.judging.proofs.Answers.{file_refused, file_none, file_some}
+use Rattle.packets.proofs.Meeting.{met, gone}
+use mathlib.Core.Path.{sym, subst, ◌∙◌}
+use borrow.Author.Rules.{rules}
+use Rattle.judging.proofs.judged.Goals as goal
+
+pub checked-requires : goal.checked-requires
+checked-requires c = c.scan_all-c.ensures.scanned
+
+pub returns-in-Refused : goal.returns-in-Refused
+returns-in-Refused c = file_refused _ _ _ _ (sym c.walk_all.ensures ∙ c.in-Refused.is)
+
+pub returns-in-Given : goal.returns-in-Given
+returns-in-Given c = rw c.not.ensures (file_none _ _ _ _ (sym c.walk_all.ensures ∙ c.in-Given.is) (gone _ _ _ _ c.next_mine.ensures c.in-Gone.is))
+
+pub returns-in-Refused-walk_on : goal.returns-in-Refused-walk_on
+returns-in-Refused-walk_on c = file_refused _ _ _ _ (sym c.scan_all-c.ensures.end_value ∙ sym c.walk_on.ensures ∙ c.in-Refused-walk_on.is)
+
+pub returns-in-Given-walk_on : goal.returns-in-Given-walk_on
+returns-in-Given-walk_on c = let m = met _ _ _ _ c.next_mine.ensures c.in-Mine.is in
+    let well = sym c.scan_all-c.ensures.end_value ∙ sym c.walk_on.ensures ∙ c.in-Given-walk_on.is in
+    subst (λ (v : Verdict ℕ). ReadyIs (mine_of c.args.file.now c.args.kind c.args.instance) c.args.room v c.checked.result) (sym (file_some _ _ _ _ well m)) c.checked.ensures

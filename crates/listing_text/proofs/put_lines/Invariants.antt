@@ -1,0 +1,18 @@
+-- What the loops of `listing_text::put_lines` keep, and what goes down.
+use Rattle.box_rules.proofs.Walking.{forward_skip, forward_meet}
+use Rattle.box_rules.specs.Walk.{steps_from}
+use Rattle.box_rules.specs.Packets.{packets_in}
+use Rattle.box_rules.specs.Text.{lines}
+use Rattle.listing_text.proofs.Writes.{Going, going_start, going_more, going_same, going_done, lines_end, lines_broken, lines_skip, lines_meet}
+use lib.ListN.{length}
+use Prim.Native.Nat.{◌+◌, ◌*◌, ◌-◌, ◌≤◌}
+use mathlib.Core.Path.{sym, ◌∙◌}
+use native.Mathlib.Omega.{arith}
+use borrow.Author.Rules.{rules}
+use Rattle.listing_text.proofs.put_lines.Given as goal
+
+abbrev pub invariant-loop-next : goal.invariant-loop-next
+invariant-loop-next l = Going l.out l.to (lines (packets_in l.file (steps_from l.file l.pos))) l.initial.out l.at (lines (packets_in l.file (steps_from l.file 2))) × (l.to ≤ l.at + 72 * l.pos) × (l.pos ≤ length l.file + 2)
+
+abbrev pub decreases-loop-next : goal.decreases-loop-next
+decreases-loop-next l = length l.file - l.pos

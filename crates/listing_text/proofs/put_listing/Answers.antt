@@ -1,0 +1,18 @@
+-- `listing_text::put_listing` meets its contract, case by case.
+use Rattle.box_rules.specs.Text.{header}
+use Rattle.listing_text.proofs.Writes.{wrote_then, listing_long, listing_refused, listing_good}
+use mathlib.Core.Path.{sym, ◌∙◌}
+use borrow.Author.Rules.{rules}
+use Rattle.listing_text.proofs.put_listing.Goals as goal
+
+pub returns-then-file-gt65536 : goal.returns-then-file-gt65536
+unfolding header
+returns-then-file-gt65536 c = rw (listing_long _ c.if-file-gt65536.true) (wrote_then c.put_text-h.ensures c.put_answer.ensures.wrote)
+
+pub returns-in-Refused : goal.returns-in-Refused
+unfolding header
+returns-in-Refused c = rw (listing_refused _ c.if-file-gt65536.false (sym c.walk_all.ensures ∙ c.in-Refused.is)) (wrote_then c.put_text-h.ensures c.put_answer-in-Refused.ensures.wrote)
+
+pub returns-in-Given : goal.returns-in-Given
+unfolding header
+returns-in-Given c = rw (listing_good _ c.if-file-gt65536.false (sym c.walk_all.ensures ∙ c.in-Given.is)) (wrote_then c.put_text-h.ensures (wrote_then c.put_lines-e.ensures.wrote c.put_answer-in-Given.ensures.wrote))

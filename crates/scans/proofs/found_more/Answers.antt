@@ -1,0 +1,6 @@
+-- `scans::found_more` meets its contract.
+use borrow.Author.Rules.{rules}
+use Rattle.scans.proofs.found_more.Goals as goal
+
+pub returns : goal.returns
+returns c = rw (c.alike.ensures, c.both.ensures, c.both-2.ensures)

@@ -1,0 +1,33 @@
+-- `windows::missing_by` meets its contract: none of the numbers passed is missing.
+use Rattle.box_rules.proofs.Counts.{missing_done}
+use Rattle.windows.proofs.Places.{window_missing, window_index, window_passed}
+use Rattle.box_rules.specs.Numbers.{numbers_from, missing_from}
+use lib.ListN.{length}
+use mathlib.Core.Path.{◌≡◌, refl, sym, ◌∙◌}
+use Prim.Native.Nat.{◌+◌, ◌-◌, ◌≤◌}
+use native.Mathlib.Omega.{arith}
+use borrow.Author.Rules.{rules}
+use Rattle.windows.proofs.missing_by.Goals as goal
+
+pub loop-passed-init : goal.loop-passed-init
+loop-passed-init c = let e : c.args.n - 0 ≡ c.args.n = omega arith in (rw e, omega arith, refl)
+
+pub overflow_add-result-in-At : goal.overflow_add-result-in-At
+overflow_add-result-in-At c = let h = window_index c.?locate.ensures _ (c.args.n - c.?loop.passed) (omega (arith, c.?lesser.ensures)) (omega (arith, c.?lesser.ensures)) c.first_gone.ensures c.in-At.is in omega (arith, c.?lesser.ensures)
+
+pub returns-in-At : goal.returns-in-At
+returns-in-At c = sym (window_missing c.?locate.ensures _ (c.args.n - c.?loop.passed) (omega (arith, c.?lesser.ensures)) (omega (arith, c.?lesser.ensures)) c.first_gone.ensures c.in-At.is) ∙ c.?loop.invariant.0
+
+pub overflow_add-passed : goal.overflow_add-passed
+overflow_add-passed c = omega (arith, c.?lesser.ensures)
+
+pub loop-passed-smaller : goal.loop-passed-smaller
+loop-passed-smaller c = omega (arith, c.?lesser.ensures)
+
+pub loop-passed-preserved : goal.loop-passed-preserved
+loop-passed-preserved c = let w = window_passed c.?locate.ensures c.?lesser.result (c.args.n - c.?loop.passed) (omega (arith, c.?lesser.ensures)) (omega (arith, c.?lesser.ensures)) c.first_gone.ensures c.in-Nothing.is in
+    let e : c.args.n - (c.?loop.passed + c.?lesser.result) ≡ c.args.n - c.?loop.passed - c.?lesser.result = omega arith in
+    (rw e (sym w ∙ c.?loop.invariant.0), omega (arith, c.?lesser.ensures), search rules)
+
+pub returns : goal.returns
+returns c = sym (missing_done _ _ _ (omega arith)) ∙ c.loop-passed.invariant.0
