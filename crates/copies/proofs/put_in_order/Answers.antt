@@ -52,7 +52,7 @@ copy_part-requires-in-Mine c = let m = met _ _ _ _ c.next_mine.ensures c.in-Mine
 
 pub overflow_add-to-in-Mine : goal.overflow_add-to-in-Mine
 overflow_add-to-in-Mine c = let m = met _ _ _ _ c.next_mine.ensures c.in-Mine.is in
-    omega (arith, c.?well-formed, (payload_turn c.loop-destination.invariant m).0, c.loop-destination.invariant.size)
+    omega (arith, c.well_formed, (payload_turn c.loop-destination.invariant m).0, c.loop-destination.invariant.size)
 
 pub loop-destination-smaller : goal.loop-destination-smaller
 loop-destination-smaller c = let m = met _ _ _ _ c.next_mine.ensures c.in-Mine.is in

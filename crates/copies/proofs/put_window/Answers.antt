@@ -20,7 +20,7 @@ copy_part-requires c = let m = met _ _ _ _ c.next_mine.ensures c.in-Mine.is in (
 
 pub overflow_add-end : goal.overflow_add-end
 overflow_add-end c = let m = met _ _ _ _ c.next_mine.ensures c.in-Mine.is in
-    omega (arith, c.?well-formed, (window_turn c.locate.ensures c.requires c.loop-i.i c.loop-i-test.true (search rules) c.loop-i.invariant.0 m).0, c.loop-i.invariant.0.size)
+    omega (arith, c.well_formed, (window_turn c.locate.ensures c.requires c.loop-i.i c.loop-i-test.true (search rules) c.loop-i.invariant.0 m).0, c.loop-i.invariant.0.size)
 
 pub loop-i-preserved : goal.loop-i-preserved
 loop-i-preserved c = ((window_turn c.locate.ensures c.requires c.loop-i.i c.loop-i-test.true (search rules) c.loop-i.invariant.0 (met _ _ _ _ c.next_mine.ensures c.in-Mine.is)).1 _ c.copy_part.ensures, omega arith)

@@ -18,7 +18,7 @@ overflow_cast-q c = omega (arith, c.shared_slice_known-1.given c.loop-i.i)
 
 pub loop-i-preserved : goal.loop-i-preserved
 loop-i-preserved c = let e = drop_next c.args.held.now c.loop-i.i (search rules) in
-    (twice_turn _ _ c.loop-i.invariant.0 e (rw c.?Stands-from.ensures at c.lower-w.ensures), omega arith)
+    (twice_turn _ _ c.loop-i.invariant.0 e (rw c.stands_from.ensures at c.lower-w.ensures), omega arith)
 
 pub returns : goal.returns
 returns c = twice_end _ _ c.loop-i.invariant.0 (drop_of_length-le c.args.held.now {i = c.loop-i.i} (omega arith))

@@ -15,7 +15,7 @@ pub window_end-hi-requires : goal.window_end-hi-requires
 window_end-hi-requires c = (c.loop-lo-test.true, c.past_all-top.ensures.upper_bound)
 
 pub twice_in-requires : goal.twice_in-requires
-twice_in-requires c = (c.window_end-hi.ensures.0.0, omega (arith, c.window_end-hi.ensures.0, c.past_all-top.ensures.upper_bound), c.window_end-hi.ensures.1)
+twice_in-requires c = (c.window_end-hi.ensures.lower_bound.0, omega (arith, c.window_end-hi.ensures.lower_bound, c.past_all-top.ensures.upper_bound), c.window_end-hi.ensures.instance_bound)
 
 pub returns-in-At : goal.returns-in-At
 returns-in-At c = windows_found _ _ _ c.loop-lo.invariant.0 c.twice_in.ensures c.in-At.is

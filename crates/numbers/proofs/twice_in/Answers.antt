@@ -21,4 +21,4 @@ pub slice_bounds-least_twice-end-2 : goal.slice_bounds-least_twice-end-2
 slice_bounds-least_twice-end-2 c = sym (length-take-le _ _ (search rules))
 
 pub returns : goal.returns
-returns c = window_twice _ _ _ _ (c.least_twice.ensures ∙ ap first_twice c.?gather.ensures.0)
+returns c = window_twice _ _ _ _ (c.least_twice.ensures ∙ ap first_twice c.gather-k.ensures.0)
