@@ -12,7 +12,7 @@ use borrow.Author.Rules.{rules}
 use Rattle.windows.proofs.first_gone.Given as goal
 
 abbrev pub invariant-loop-i : goal.invariant-loop-i
-invariant-loop-i l = (first_fail l.i (λ (l.i : ℕ). ltb 0 (get_or l.places l.i 0)) ≡ Nothing) × (l.i ≤ l.k)
+invariant-loop-i l = (first_fail l.i (λ (i : ℕ). ltb 0 (get_or l.places i 0)) ≡ Nothing) × (l.i ≤ l.k)
 
 abbrev pub decreases-loop-i : goal.decreases-loop-i
 decreases-loop-i l = l.k - l.i
