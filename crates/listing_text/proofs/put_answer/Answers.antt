@@ -7,7 +7,7 @@ use Rattle.listing_text.proofs.put_answer.Goals as goal
 
 pub returns : goal.returns
 unfolding answer
-returns c = (
-      wrote_then c.put_text-a.ensures (wrote_then c.put_number-b.ensures.wrote (wrote_then c.put-c.ensures (wrote_then c.put_number-d.ensures.wrote c.put.ensures))),
-      omega (arith, c.put_text-a.ensures.next, c.put_number-b.ensures.upper_bound, c.put-c.ensures.next, c.put_number-d.ensures.upper_bound, c.put.ensures.next),
-    )
+returns c = record {
+  wrote = wrote_then c.put_text-a.ensures (wrote_then c.put_number-b.ensures.wrote (wrote_then c.put-c.ensures (wrote_then c.put_number-d.ensures.wrote c.put.ensures)));
+  upper_bound = omega (arith, c.put_text-a.ensures.next, c.put_number-b.ensures.upper_bound, c.put-c.ensures.next, c.put_number-d.ensures.upper_bound, c.put.ensures.next);
+}
