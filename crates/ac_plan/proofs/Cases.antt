@@ -8,7 +8,7 @@ use lib.IntN.{ℤ, pos, negsuc}
 use lib.ListN.{replicate}
 use Rattle.plane_rules.specs.Task.{walk, ended}
 use Rattle.plane_rules.specs.AcRead.{cut}
-use Rattle.plane_rules.specs.AcWrite.{ac_half, keep, still, fresh, kind_of, one_more_lem, ahead, quiet, plan}
+use Rattle.plane_rules.specs.AcWrite.{ac_half, keep, still, fresh, kind_of, one_more, ahead, quiet, plan}
 use Rattle.ac_plan.specs.Code.{kinds_from, kind_blocks, kind_is, coming_is}
 use Rattle.ac_plan.specs.declared.Change.TheVariants.{Kept, Still, Fresh}
 use Rattle.ac_plan.specs.declared.Coming.TheVariants.{Value, Quiet}
@@ -28,19 +28,19 @@ row = pos 0 ∷ pos 2 ∷ pos 0 ∷ negsuc 0 ∷ pos 1 ∷ negsuc 2 ∷ pos 0 �
 
 pub coming : map (λ (i : ℕ). ahead (kinds_from row i)) (0 ∷ 1 ∷ 2 ∷ 3 ∷ 4 ∷ 5 ∷ 7 ∷ [])
     ≡ (some (2, false) ∷ some (1, false) ∷ some (1, false) ∷ some (0, false) ∷ some (0, true) ∷ none ∷ none ∷ [])
-unfolding kinds_from ac_half kind_of one_more_lem ahead
+unfolding kinds_from ac_half kind_of one_more ahead
 coming = refl
 
 -- "the zero after r zeros": r is at most 15 in a code with a sign; sixteen zeros before a new value take "the 16-zero code", and so do seventeen
 pub before_new : map (λ (n : ℕ). plan (kinds_from (zeros n ++ (pos 1 ∷ [])) 0) []) (0 ∷ 1 ∷ 15 ∷ 16 ∷ 17 ∷ [])
     ≡ (walk 0 (some true) ∷ walk 1 (some true) ∷ walk 15 (some true) ∷ walk 15 none ∷ walk 15 none ∷ [])
-unfolding kinds_from ac_half kind_of one_more_lem ahead quiet plan
+unfolding kinds_from ac_half kind_of one_more ahead quiet plan
 before_new = refl
 
 -- "uses the 16-zero code only before a later new value": twenty zeros and none; "starts it directly after the last new value": corrections are left
 pub run_begins : (plan (kinds_from (zeros 20) 0) [] ∷ plan (kinds_from (pos 1 ∷ pos 3 ∷ pos 0 ∷ []) 1) [] ∷ plan (kinds_from (pos 3 ∷ pos 1 ∷ []) 0) [] ∷ [])
     ≡ (ended 0 ∷ ended 0 ∷ walk 0 (some true) ∷ [])
-unfolding kinds_from ac_half kind_of one_more_lem ahead quiet plan
+unfolding kinds_from ac_half kind_of one_more ahead quiet plan
 run_begins = refl
 
 -- "the longest end run": this block and those behind it up to one with a new value; none behind; a block of corrections belongs to it
@@ -54,7 +54,7 @@ pub run_lengths : map (λ (later : List ℤ × ℕ). plan [] (kind_blocks later.
     ∷ (replicate 63 (pos 3) ++ zeros 63, 2)
     ∷ [])
     ≡ (ended 0 ∷ ended 1 ∷ ended 2 ∷ ended 0 ∷ ended 1 ∷ ended 1 ∷ ended 2 ∷ [])
-unfolding kind_blocks cut ac_half kind_of one_more_lem ahead quiet plan
+unfolding kind_blocks cut ac_half kind_of one_more ahead quiet plan
 run_lengths = refl
 
 -- what the code's enums stand for

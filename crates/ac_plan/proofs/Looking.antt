@@ -11,7 +11,7 @@ use lib.ListN.{length, get_or, take, drop, drop_of_length-le}
 use lib.Seq.{drop-cons, drop-drop}
 use Rattle.bit_rules.specs.Digits.{odd}
 use Rattle.plane_rules.specs.AcRead.{cut}
-use Rattle.plane_rules.specs.AcWrite.{Kind, fresh, kind_of, ahead, one_more_lem, quiet, unless_new}
+use Rattle.plane_rules.specs.AcWrite.{Kind, fresh, kind_of, ahead, one_more, quiet, unless_new}
 use Rattle.plane_rules.proofs.Halves.{kind_zero, kind_up, kind_down}
 use Rattle.ac_plan.specs.Code.{kinds_from, kind_blocks, kind_is, still_is, coming_is}
 use Rattle.ac_plan.specs.declared.Change.{Change}
@@ -40,8 +40,8 @@ more_none : (x : Option (ℕ × Bool)) → more_zeros 0 x ≡ x
 more_none none = refl
 more_none (some p) = ap (λ (k : ℕ). some (k, p.1)) (omega arith)
 
-more_one : (n : ℕ) (x : Option (ℕ × Bool)) → more_zeros n (one_more_lem x) ≡ more_zeros (n + 1) x
-unfolding one_more_lem
+more_one : (n : ℕ) (x : Option (ℕ × Bool)) → more_zeros n (one_more x) ≡ more_zeros (n + 1) x
+unfolding one_more
 more_one n none = refl
 more_one n (some p) = ap (λ (k : ℕ). some (k, p.1)) (omega arith)
 

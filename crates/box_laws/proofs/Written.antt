@@ -17,7 +17,7 @@ use Rattle.box_rules.specs.declared.Step.{Step}
 use Rattle.box_rules.specs.declared.Step.TheVariants.{End, Skip, Meet}
 use Rattle.box_rules.specs.Walk.{be16, be32, be64, head_at, long_head_at, ones, barred, tagged, packet_at, whole_at, marked_at, step_at, steps_from, begins, walk, ending}
 use Rattle.box_rules.specs.Packets.{Packet, packets_in, packets}
-use Rattle.box_rules.specs.Layout.{Part, packed, other, two, four, eight, headed, segment, inner, bytes_of, all_bytes, laid_out_lem, packets_of, Boxed, Plain, AllSound}
+use Rattle.box_rules.specs.Layout.{Part, packed, other, two, four, eight, headed, segment, inner, bytes_of, all_bytes, laid_out, packets_of, Boxed, Plain, AllSound}
 use Rattle.box_rules.proofs.Walking.{segment_at, packets_end, packets_skip, packets_meet, ending_end, ending_skip, ending_meet, walk_begun}
 
 ones_run : (n x : ℕ) (s : List ℕ) → (x ≡ 255 → ⊥) → ones (replicate n 255 ++ (x ∷ s)) ≡ n
@@ -321,11 +321,11 @@ unfolding begins
 starts r = rw (le-ltb (length (0xFF ∷ 0xD8 ∷ r)) 2 (omega arith))
 
 -- "The walk starts after FF D8", and meets what was written
-pub laid_out : (parts : List Part) (fill : ℕ) (behind : List ℕ) → AllSound parts
-    → (packets (laid_out_lem parts fill behind) ≡ packets_of parts) × (ending (walk (laid_out_lem parts fill behind)) ≡ Given 0)
-unfolding packets laid_out_lem last
-laid_out parts fill behind s =
-    let file : List ℕ = laid_out_lem parts fill behind in
+pub laid_out_lem : (parts : List Part) (fill : ℕ) (behind : List ℕ) → AllSound parts
+    → (packets (laid_out parts fill behind) ≡ packets_of parts) × (ending (walk (laid_out parts fill behind)) ≡ Given 0)
+unfolding packets laid_out last
+laid_out_lem parts fill behind s =
+    let file : List ℕ = laid_out parts fill behind in
     let w = walked fill behind parts file (0xFF ∷ 0xD8 ∷ []) 2 refl refl s in
     let b : walk file ≡ steps_from file 2 = walk_begun file (starts _) in
     (ap (packets_in file) b ∙ w.met, ap ending b ∙ w.well)

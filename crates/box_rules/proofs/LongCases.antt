@@ -15,7 +15,7 @@ use Rattle.box_rules.specs.Box.{alike, agree, contents, total, numbered, joined_
 use Rattle.box_rules.specs.Text.{line, lines, header, answer, listing, dec_in, dec, glyph, hex}
 use Rattle.box_rules.proofs.WalkCases.{first}
 use Rattle.box_rules.proofs.BoxCases.{packet, file, end, asked, no}
-use Rattle.box_rules.specs.Layout.{packed, other, two, four, eight, headed, segment, inner, bytes_of, all_bytes, laid_out_lem, Boxed, longer, lengthened, InLongForm, empty, longer_there, same_there}
+use Rattle.box_rules.specs.Layout.{packed, other, two, four, eight, headed, segment, inner, bytes_of, all_bytes, laid_out, Boxed, longer, lengthened, InLongForm, empty, longer_there, same_there}
 
 -- eight bytes behind the type of a packet: so often 2^32, and so much more
 abbrev lasting : ℕ → ℕ → List ℕ → List ℕ
@@ -130,10 +130,10 @@ unfolding be16 be32 be64 head_at long_head_at ones barred tagged packet_at whole
 listed = refl
 
 -- the bytes of a packet in the long form, as a writer lays them out
-pub written : laid_out_lem (packed 0 (record { head = record { instance = 1; number = 2; stated = 0x0102030405060708; heading = 16; kind = 0x4C505453 }; payload = 0xAA ∷ [] }) ∷ []) 0 []
+pub written : laid_out (packed 0 (record { head = record { instance = 1; number = 2; stated = 0x0102030405060708; heading = 16; kind = 0x4C505453 }; payload = 0xAA ∷ [] }) ∷ []) 0 []
     ≡ 0xFF ∷ 0xD8 ∷ 0xFF ∷ 0xEB ∷ 0x00 ∷ 0x1B ∷ 0x4A ∷ 0x50 ∷ 0x00 ∷ 0x01 ∷ 0x00 ∷ 0x00 ∷ 0x00 ∷ 0x02 ∷ 0x00 ∷ 0x00 ∷ 0x00 ∷ 0x01 ∷ 0x4C ∷ 0x50 ∷ 0x54 ∷ 0x53
     ∷ 0x01 ∷ 0x02 ∷ 0x03 ∷ 0x04 ∷ 0x05 ∷ 0x06 ∷ 0x07 ∷ 0x08 ∷ 0xAA ∷ 0xFF ∷ 0xDA ∷ []
-unfolding two four eight headed segment inner bytes_of all_bytes laid_out_lem
+unfolding two four eight headed segment inner bytes_of all_bytes laid_out
 written = refl
 
 -- a packet whose numbers all differ, in the short form, of the length 22; and in the long form

@@ -10,7 +10,7 @@ use Rattle.box_rules.specs.declared.Step.{Step}
 use Rattle.box_rules.specs.declared.Step.TheVariants.{End, Skip, Meet, Broken}
 use Rattle.box_rules.specs.Walk.{be16, be32, head_at, ones, barred, tagged, packet_at, whole_at, sized_at, marked_at, step_at, steps_in, steps_from, begins, walk, ending}
 use Rattle.box_rules.specs.Packets.{packets_in, packets, is_mine, mine}
-use Rattle.box_rules.specs.Layout.{packed, other, two, four, headed, segment, inner, bytes_of, all_bytes, laid_out_lem}
+use Rattle.box_rules.specs.Layout.{packed, other, two, four, headed, segment, inner, bytes_of, all_bytes, laid_out}
 
 -- a file of these bytes behind FF D8, and what stands at its first segment
 abbrev begun : List ℕ → List ℕ
@@ -136,11 +136,11 @@ those = refl
 abbrev lpts : Head
 lpts = record { instance = 1; number = 1; stated = 11; heading = 8; kind = 0x4C505453 }
 
-pub written : laid_out_lem (other 1 0xE0 (7 ∷ []) ∷ packed 0 (record { head = lpts; payload = 0xAA ∷ 0xBB ∷ 0xCC ∷ [] }) ∷ []) 2 (9 ∷ [])
+pub written : laid_out (other 1 0xE0 (7 ∷ []) ∷ packed 0 (record { head = lpts; payload = 0xAA ∷ 0xBB ∷ 0xCC ∷ [] }) ∷ []) 2 (9 ∷ [])
     ≡ 0xFF ∷ 0xD8 ∷ 0xFF ∷ 0xFF ∷ 0xE0 ∷ 0 ∷ 3 ∷ 7 ∷ 0xFF ∷ 0xEB ∷ 0x00 ∷ 0x15 ∷ 0x4A ∷ 0x50
     ∷ 0x00 ∷ 0x01 ∷ 0x00 ∷ 0x00 ∷ 0x00 ∷ 0x01 ∷ 0x00 ∷ 0x00 ∷ 0x00 ∷ 0x0B
     ∷ 0x4C ∷ 0x50 ∷ 0x54 ∷ 0x53 ∷ 0xAA ∷ 0xBB ∷ 0xCC ∷ 0xFF ∷ 0xFF ∷ 0xFF ∷ 0xDA ∷ 9 ∷ []
-unfolding two four headed segment inner bytes_of all_bytes laid_out_lem
+unfolding two four headed segment inner bytes_of all_bytes laid_out
 written = refl
 
 abbrev of : ℕ → ℕ → Head

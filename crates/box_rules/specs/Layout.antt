@@ -46,8 +46,8 @@ all_bytes [] = []
 all_bytes (x ∷ r) = bytes_of x ++ all_bytes r
 
 -- W10: FF D8, the segments, FF with any fill, DA, and anything behind it
-unfoldable pub laid_out_lem : List Part → ℕ → List ℕ → List ℕ
-laid_out_lem parts fill behind = (0xFF ∷ 0xD8 ∷ []) ++ (all_bytes parts ++ (replicate (suc fill) 0xFF ++ (0xDA ∷ behind)))
+unfoldable pub laid_out : List Part → ℕ → List ℕ → List ℕ
+laid_out parts fill behind = (0xFF ∷ 0xD8 ∷ []) ++ (all_bytes parts ++ (replicate (suc fill) 0xFF ++ (0xDA ∷ behind)))
 
 -- W10: the packets among them, in file order
 unfoldable pub packets_of : List Part → List Packet

@@ -8,11 +8,11 @@ use Rattle.box_rules.specs.Walk.{be16, be32, be64, head_at, long_head_at, ones, 
 use Rattle.box_rules.specs.Packets.{packets_in, packets, is_mine, mine}
 use Rattle.box_rules.specs.Numbers.{numbers, count, least, first_twice, missing_from, first_missing}
 use Rattle.box_rules.specs.Box.{alike, agree, contents, total, numbered, joined_from, joined, assembled, assemble, box_bytes}
-use Rattle.box_rules.specs.Layout.{Part, packed, two, four, eight, segment, headed, inner, bytes_of, all_bytes, laid_out_lem, packets_of, AllSound, longer, lengthened, InLongForm, empty, longer_there, same_there}
+use Rattle.box_rules.specs.Layout.{Part, packed, two, four, eight, segment, headed, inner, bytes_of, all_bytes, laid_out, packets_of, AllSound, longer, lengthened, InLongForm, empty, longer_there, same_there}
 use Rattle.box_rules.proofs.Lengthened.{told}
 use Rattle.box_laws.proofs.Reordering.{same_verdict}
 use Rattle.box_laws.proofs.Forms.{assemble_longer}
-use Rattle.box_laws.proofs.Written.{laid_out}
+use Rattle.box_laws.proofs.Written.{laid_out_lem}
 use Rattle.demands.specs.Cases.{result_of, lpts}
 use Rattle.demands.specs.Practice.{AnsweredAlike, practice_between, dots}
 use Rattle.demands.specs.Forms.{EitherForm, live_in_long_form, FormsShown}
@@ -22,11 +22,11 @@ use Rattle.demands.proofs.Practice.{by_verdict, still, one, another, practised, 
 
 pub either_form : EitherForm
 either_form kind instance parts parts' fill fill' behind behind' s h =
-    let file : List ℕ = laid_out_lem parts fill behind in
-    let file' : List ℕ = laid_out_lem parts' fill' behind' in
+    let file : List ℕ = laid_out parts fill behind in
+    let file' : List ℕ = laid_out parts' fill' behind' in
     let w = told kind instance s h in
-    let a = laid_out parts fill behind s in
-    let b = laid_out parts' fill' behind' w.sound in
+    let a = laid_out_lem parts fill behind s in
+    let b = laid_out_lem parts' fill' behind' w.sound in
     by_verdict kind instance file file' λ room.
     same_verdict file file' kind instance room (a.1 ∙ sym b.1)
     (rw (a.0, b.0, w.long) (sym (assemble_longer room (mine kind instance (packets_of parts)) w.short)))
@@ -39,12 +39,12 @@ short_parts = packed 0 one ∷ practised ∷ packed 0 another ∷ []
 abbrev long_parts : List Part
 long_parts = packed 0 (lengthened one) ∷ practised ∷ packed 0 (lengthened another) ∷ []
 
-short_laid : laid_out_lem short_parts 0 [] ≡ practice_between
-unfolding laid_out_lem all_bytes bytes_of segment inner headed two four
+short_laid : laid_out short_parts 0 [] ≡ practice_between
+unfolding laid_out all_bytes bytes_of segment inner headed two four
 short_laid = refl
 
-long_laid : laid_out_lem long_parts 0 [] ≡ live_in_long_form
-unfolding laid_out_lem all_bytes bytes_of segment inner headed two four eight longer lengthened
+long_laid : laid_out long_parts 0 [] ≡ live_in_long_form
+unfolding laid_out all_bytes bytes_of segment inner headed two four eight longer lengthened
 long_laid = refl
 
 short_sound : AllSound short_parts
@@ -56,7 +56,7 @@ in_long_form = longer_there 0 0 refl refl refl (same_there {x = practised} (λ k
 pictures_alike : AnsweredAlike lpts 1 practice_between live_in_long_form
 pictures_alike =
     subst (λ (x : List ℕ). AnsweredAlike lpts 1 practice_between x) long_laid
-    (subst (λ (x : List ℕ). AnsweredAlike lpts 1 x (laid_out_lem long_parts 0 [])) short_laid
+    (subst (λ (x : List ℕ). AnsweredAlike lpts 1 x (laid_out long_parts 0 [])) short_laid
     (either_form lpts 1 short_parts long_parts 0 0 [] [] short_sound in_long_form))
 
 -- a call on the picture in the short form

@@ -12,10 +12,10 @@ use Rattle.box_rules.specs.Packets.{Packet, packets_in, packets, is_mine, mine}
 use Rattle.box_rules.specs.Numbers.{numbers, count, least, first_twice, missing_from, first_missing}
 use Rattle.box_rules.specs.Box.{alike, agree, contents, total, numbered, joined_from, joined, assembled, assemble, box_bytes}
 use Rattle.box_rules.specs.Order.{Reordered, swap}
-use Rattle.box_rules.specs.Layout.{Part, packed, other, Boxed, Plain, two, four, segment, headed, inner, bytes_of, all_bytes, laid_out_lem, AllSound, SameFor, empty, shared, there, exchanged, through}
+use Rattle.box_rules.specs.Layout.{Part, packed, other, Boxed, Plain, two, four, segment, headed, inner, bytes_of, all_bytes, laid_out, AllSound, SameFor, empty, shared, there, exchanged, through}
 use Rattle.box_rules.proofs.Strangers.{self, same_for}
 use Rattle.box_laws.proofs.Reordering.{same_answer}
-use Rattle.box_laws.proofs.Written.{laid_out}
+use Rattle.box_laws.proofs.Written.{laid_out_lem}
 use Rattle.demands.specs.Cases.{result_of, lpts}
 use Rattle.demands.specs.Practice.{EndsWell, own, AnsweredAlike, PracticeApart, practice, live, stranger_in_front, stranger_between, stranger_behind, practice_between, practice_wrapped, backward, elsewhere, lost, lost_beside, PracticeHolds, dots, Answers, StillLive, PracticeShown}
 use Rattle.demands.proofs.Shams.{one_outcome}
@@ -37,11 +37,11 @@ module _ (kind instance : ℕ) (file file' : List ℕ) (w : EndsWell file) (w' :
   in_one_order e = in_any_order (subst (Reordered (own kind instance file)) e (self (own kind instance file)))
 
 as_written : (kind instance : ℕ) (parts parts' : List Part) (fill fill' : ℕ) (behind behind' : List ℕ) → AllSound parts → AllSound parts'
-    → SameFor kind instance parts parts' → AnsweredAlike kind instance (laid_out_lem parts fill behind) (laid_out_lem parts' fill' behind')
+    → SameFor kind instance parts parts' → AnsweredAlike kind instance (laid_out parts fill behind) (laid_out parts' fill' behind')
 as_written kind instance parts parts' fill fill' behind behind' s s' h =
-    let a = laid_out parts fill behind s in
-    let b = laid_out parts' fill' behind' s' in
-    in_any_order kind instance (laid_out_lem parts fill behind) (laid_out_lem parts' fill' behind') a.1 b.1 (rw (a.0, b.0) (same_for kind instance h))
+    let a = laid_out_lem parts fill behind s in
+    let b = laid_out_lem parts' fill' behind' s' in
+    in_any_order kind instance (laid_out parts fill behind) (laid_out parts' fill' behind') a.1 b.1 (rw (a.0, b.0) (same_for kind instance h))
 
 pub practice_apart : PracticeApart
 practice_apart = record { strangers = in_one_order; order = in_any_order; written = as_written }
@@ -105,12 +105,12 @@ live_parts = packed 0 one ∷ packed 0 another ∷ []
 abbrev elsewhere_parts : List Part
 elsewhere_parts = greeting ∷ practised ∷ packed 2 another ∷ toned ∷ remark (practice 1 []) ∷ packed 0 one ∷ []
 
-live_laid : laid_out_lem live_parts 0 [] ≡ live
-unfolding laid_out_lem all_bytes bytes_of segment inner headed two four
+live_laid : laid_out live_parts 0 [] ≡ live
+unfolding laid_out all_bytes bytes_of segment inner headed two four
 live_laid = refl
 
-elsewhere_laid : laid_out_lem elsewhere_parts 1 (practice 1 []) ≡ elsewhere
-unfolding laid_out_lem all_bytes bytes_of segment inner headed two four
+elsewhere_laid : laid_out elsewhere_parts 1 (practice 1 []) ≡ elsewhere
+unfolding laid_out all_bytes bytes_of segment inner headed two four
 elsewhere_laid = refl
 
 pub boxed : (kind instance number stated : ℕ) (payload : List ℕ) → 8 ≤ stated → Boxed (holding kind instance number stated payload)
@@ -139,7 +139,7 @@ same_parts =
 elsewhere_alike : AnsweredAlike lpts 1 live elsewhere
 elsewhere_alike =
     subst (λ (x : List ℕ). AnsweredAlike lpts 1 live x) elsewhere_laid
-    (subst (λ (x : List ℕ). AnsweredAlike lpts 1 x (laid_out_lem elsewhere_parts 1 (practice 1 []))) live_laid
+    (subst (λ (x : List ℕ). AnsweredAlike lpts 1 x (laid_out elsewhere_parts 1 (practice 1 []))) live_laid
     (practice_apart.written lpts 1 live_parts elsewhere_parts 0 1 [] (practice 1 []) live_sound elsewhere_sound same_parts))
 
 pub practice_shown : PracticeShown

@@ -95,9 +95,9 @@ behind l rest b i e =
     let k : suc b * 63 + i ≡ length l + (b * 63 + i) = omega arith in
     ap (λ (j : ℕ). get_or (l ++ rest) j (pos 0)) k ∙ get_or-append-add l rest (b * 63 + i) (pos 0)
 
-pub laid_out : LaidOut
+pub laid_out_lem : LaidOut
 unfolding whole join_to
-laid_out = record {
+laid_out_lem = record {
   none = λ values. refl;
   next = λ n dc dcs block acs long.
       join_front n _

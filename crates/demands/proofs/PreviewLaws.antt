@@ -35,7 +35,7 @@ use Rattle.merge_laws.proofs.Order.{picture_long}
 use Rattle.demands.specs.Two.{Merged}
 use Rattle.demands.specs.Three.{Both, Within, level_of}
 use Rattle.demands.specs.Preview.{whole, owed_tint, owed_colour, owed_result, owed_base, with_planes, Sound, MergedBoth, Owes, base_at, owed_at, ResultsAreGiven, OwedByOwnQuantisers, ResultsAreNear, in_full, ResultsShown, PreviewLaws}
-use Rattle.demands.proofs.Preview.{laid_out, samples_owe, previews_are_given, both_given, owed_by_largest, pictures_are_near, owed_falls, owed_is_reached}
+use Rattle.demands.proofs.Preview.{laid_out_lem, samples_owe, previews_are_given, both_given, owed_by_largest, pictures_are_near, owed_falls, owed_is_reached}
 use Rattle.demands.proofs.PreviewResults.{counted, results_owe, base_owes, base_falls, results_fall_lem, results_are_reached, reached_from_blocks}
 
 -- ---- what is merged in full is merged with fewer planes
@@ -187,7 +187,7 @@ results_shown_lem components n colour residual values rest ranges one long withi
 
 pub preview_laws : PreviewLaws
 preview_laws = record {
-  laid_out_lem = laid_out;
+  laid_out = laid_out_lem;
   samples = samples_owe;
   handed = previews_are_given;
   largest = owed_by_largest;

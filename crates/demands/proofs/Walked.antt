@@ -76,30 +76,30 @@ refused_one : {r : Refusal} {n p q : ℕ} → Refused r ≡ Refused (refusal_at 
 refused_one {r} {n} {p} {q} e = let same : r ≡ refusal_at n p q = cc in rw same (refl, refl, refl)
 
 module _ (file : List ℕ) where
-  abbrev walk_rows_lem : Rows
-  walk_rows_lem = rows (2 ∷ 3 ∷ []) (broken_at file)
+  abbrev walk_rows : Rows
+  walk_rows = rows (2 ∷ 3 ∷ []) (broken_at file)
 
-  broken_row : (at : ℕ) → Reached file at → (f : Refusal) → step_at file at ≡ Broken f → (f ≡ refusal 2 at) ⊎ (f ≡ refusal 3 at) → walk_rows_lem f.number f.place f.second
-  broken_row at reached f q (inl h) = subst (λ (x : Refusal). walk_rows_lem x.number x.place x.second) (sym h) (tt, (reached, q ∙ ap Broken h, refl))
-  broken_row at reached f q (inr h) = subst (λ (x : Refusal). walk_rows_lem x.number x.place x.second) (sym h) (tt, (reached, q ∙ ap Broken h, refl))
+  broken_row : (at : ℕ) → Reached file at → (f : Refusal) → step_at file at ≡ Broken f → (f ≡ refusal 2 at) ⊎ (f ≡ refusal 3 at) → walk_rows f.number f.place f.second
+  broken_row at reached f q (inl h) = subst (λ (x : Refusal). walk_rows x.number x.place x.second) (sym h) (tt, (reached, q ∙ ap Broken h, refl))
+  broken_row at reached f q (inr h) = subst (λ (x : Refusal). walk_rows x.number x.place x.second) (sym h) (tt, (reached, q ∙ ap Broken h, refl))
 
   -- one step, and what is known of the walk behind it
   step_rows : (at : ℕ) → Reached file at → (r : Refusal) → ending (steps_from file at) ≡ Refused r
-      → ((next : ℕ) → at < next → next ≤ length file → Reached file next → ending (steps_from file next) ≡ Refused r → walk_rows_lem r.number r.place r.second)
-      → (s : Step) → step_at file at ≡ s → walk_rows_lem r.number r.place r.second
+      → ((next : ℕ) → at < next → next ≤ length file → Reached file next → ending (steps_from file next) ≡ Refused r → walk_rows r.number r.place r.second)
+      → (s : Step) → step_at file at ≡ s → walk_rows r.number r.place r.second
   step_rows at reached r e onward End q = absurd (never_given (sym e ∙ ending_end file at q))
   step_rows at reached r e onward (Broken f) q =
       let w : Refused f ≡ Refused r = sym (ending_broken file at q) ∙ e in
       let same : f ≡ r = cc in
-      subst (λ (x : Refusal). walk_rows_lem x.number x.place x.second) same (broken_row at reached f q (subst (BrokenIs at) q (broken_step file at)))
+      subst (λ (x : Refusal). walk_rows x.number x.place x.second) same (broken_row at reached f q (subst (BrokenIs at) q (broken_step file at)))
   step_rows at reached r e onward (Skip next) q = let h = forward_skip file at q in onward next h.0 h.1 (skipped reached q) (sym (ending_skip file at q) ∙ e)
   step_rows at reached r e onward (Meet head start len next) q =
       let h = forward_meet file at q in
       onward next (omega (arith, h.0, h.1)) h.2 (met reached q) (sym (ending_meet file at q) ∙ e)
 
-  walk_rows : (k at : ℕ) → length file ≤ at + k → Reached file at → (r : Refusal) → ending (steps_from file at) ≡ Refused r → walk_rows_lem r.number r.place r.second
-  walk_rows zero at l reached r e = step_rows at reached r e (λ next h m g q. absurd (omega arith)) (step_at file at) refl
-  walk_rows (suc k) at l reached r e = step_rows at reached r e (λ next h m g q. walk_rows k next (omega arith) g r q) (step_at file at) refl
+  walk_rows_lem : (k at : ℕ) → length file ≤ at + k → Reached file at → (r : Refusal) → ending (steps_from file at) ≡ Refused r → walk_rows r.number r.place r.second
+  walk_rows_lem zero at l reached r e = step_rows at reached r e (λ next h m g q. absurd (omega arith)) (step_at file at) refl
+  walk_rows_lem (suc k) at l reached r e = step_rows at reached r e (λ next h m g q. walk_rows_lem k next (omega arith) g r q) (step_at file at) refl
 
   -- the walk from where it comes by ends as the whole does
   ends_alike : {at : ℕ} → Reached file at → ending (steps_from file at) ≡ ending (steps_from file 2)
@@ -107,7 +107,7 @@ module _ (file : List ℕ) where
   ends_alike (skipped {at} h q) = sym (ending_skip file at q) ∙ ends_alike h
   ends_alike (met {at} h q) = sym (ending_meet file at q) ∙ ends_alike h
 
-  rows_walk : (n p q : ℕ) → walk_rows_lem n p q → ending (steps_from file 2) ≡ Refused (refusal_at n p q)
+  rows_walk : (n p q : ℕ) → walk_rows n p q → ending (steps_from file 2) ≡ Refused (refusal_at n p q)
   rows_walk n p q h = sym (ends_alike h.1.0) ∙ (ending_broken file p h.1.1 ∙ rw h.1.2)
 
 -- ---- the packets of one box
@@ -140,7 +140,7 @@ box_judged file kind instance room = start (begins file) refl
     walked : begins file ≡ true → (o : Outcome) → ending (steps_from file 2) ≡ o
         → Judged (rows (2 ∷ 3 ∷ []) (broken_at file) then packet_rows (mine kind instance (packets file)) room) room (after_walk o (assemble room (mine kind instance (packets file))))
     walked b (Given n) e = passed (λ m q s h. never_given (sym (rows_walk file m q s h) ∙ e)) (packets_judged (mine kind instance (packets file)) room)
-    walked b (Refused r) e = told r (walk_rows file (length file) 2 (omega arith) first r e) (λ m q s h. refused_one (sym e ∙ rows_walk file m q s h))
+    walked b (Refused r) e = told r (walk_rows_lem file (length file) 2 (omega arith) first r e) (λ m q s h. refused_one (sym e ∙ rows_walk file m q s h))
 
     start : (b : Bool) → begins file ≡ b → Judged (row 1 (failing (begins file)) then rows (2 ∷ 3 ∷ []) (broken_at file) then packet_rows (mine kind instance (packets file)) room) room (after_walk (ending (walk file)) (assemble room (mine kind instance (packets file))))
     start true b =

@@ -15,7 +15,7 @@ use Rattle.bit_rules.specs.Table.{Table}
 use Rattle.plane_rules.specs.Plane.{read, onto, in_block}
 use Rattle.plane_rules.specs.Task.{Task, walk, ended, over}
 use Rattle.plane_rules.specs.AcRead.{task_at, position, block_end, ac_block, ac_blocks}
-use Rattle.plane_rules.specs.AcWrite.{ac_half, Kind, keep, still, fresh, kind_of, one_more_lem, ahead, unless_new, quiet, planned, plan, write_block}
+use Rattle.plane_rules.specs.AcWrite.{ac_half, Kind, keep, still, fresh, kind_of, one_more, ahead, unless_new, quiet, planned, plan, write_block}
 use Rattle.plane_rules.specs.Levels.{toward_zero}
 use Rattle.plane_rules.proofs.Halves.{kind_zero, kind_up, kind_down}
 use Rattle.demands.specs.Written.{together, LongestRun, marks, EndsAtOnce, NewValueLater, SixteenBeforeNew}
@@ -31,7 +31,7 @@ zero_minus e = let z : ◌≡◌ {A = ℕ} 0 1 = ap nat_abs e in omega arith
 
 -- a value that a position in an end run comes to is no new one
 no_new : (n : ℕ) (x : ℤ) (s : Source) (y : ℤ × Option Task) (u : Source) → position (ended n) (ac_half x) s ≡ got y u → y.0 ≡ x → (kinds : List Kind) → ahead kinds ≡ none → ahead (kind_of x ∷ kinds) ≡ none
-unfolding position ac_half ahead one_more_lem
+unfolding position ac_half ahead one_more
 no_new n (pos zero) s y u e q kinds h = rw (kind_zero, h)
 no_new n (pos (suc zero)) s y u e q kinds h = let z : pos 0 ≡ pos 1 = ap (λ (p : ℤ × Option Task). p.0) (got_both e).0 ∙ q in absurd (zero_one z)
 no_new n (pos (suc (suc m))) s y u e q kinds h = rw (kind_up m) h

@@ -23,7 +23,7 @@ pub data Asked : Type 0 where
   ac_read : ℕ → ℕ → Table → List ℤ → List ℕ → ℕ → Asked
   dc_read : ℕ → ℕ → List ℤ → List ℕ → ℕ → Asked
   transformed : ℕ → ℕ → List ℤ → List ℕ → ℕ → Asked
-  first_step_lem : Setting → Pixel ℤ → Asked
+  first_step : Setting → Pixel ℤ → Asked
   merged : Setting → ℕ → List ℤ → List ℤ → List ℕ → ℕ → Asked
 
 -- S9: what it comes to
@@ -38,7 +38,7 @@ result_of (box file kind instance room) = naturals (box_bytes file kind instance
 result_of (ac_read plane blocks T values bytes room) = integers (read_ac plane blocks T values bytes room)
 result_of (dc_read plane blocks values bytes room) = integers (read_dc plane blocks values bytes room)
 result_of (transformed refinement blocks values quantisers room) = integers (inverse_transform refinement blocks values quantisers room)
-result_of (first_step_lem setting p) = pixel (step_one setting p)
+result_of (first_step setting p) = pixel (step_one setting p)
 result_of (merged setting pixels base residual curve room) = naturals (merge setting pixels base residual curve room)
 
 -- S9: a reading, and what the whiteboard says of it
@@ -137,14 +137,14 @@ whiteboard =
     ∷ (only_dc (pos 4) gives everywhere (pos 129))
     ∷ (only_dc (negsuc 3) gives everywhere (pos 127))
     -- f. "Rh 0: Y 100, Cb 128, Cr 138 gives 114, 93, 100"
-    ∷ (first_step_lem (setting 3 Transform Absent) (triple (pos 100) (pos 128) (pos 138)) gives pixel (triple 114 93 100))
+    ∷ (first_step (setting 3 Transform Absent) (triple (pos 100) (pos 128) (pos 138)) gives pixel (triple 114 93 100))
     -- g. "128 gives 2056; with residual 2050 after step 4, 2058; base 255 with 2100 gives 4095; base 0 with 2000 gives 0"
     ∷ (base_alone (pos 128) gives one_sample 2056)
     ∷ (with (pos 128) (pos 2050) gives one_sample 2058)
     ∷ (with (pos 255) (pos 2100) gives one_sample 4095)
     ∷ (with (pos 0) (pos 2000) gives one_sample 0)
     -- A2. "a grey picture at Rh 4: Y 2048, Cb 2048, Cr 2048 gives 2048 three times after step 1"; Rb is another number, 8
-    ∷ (first_step_lem (setting_at 8 4 3 Transform Absent) (triple (pos 2048) (pos 2048) (pos 2048)) gives pixel (triple 2048 2048 2048))
+    ∷ (first_step (setting_at 8 4 3 Transform Absent) (triple (pos 2048) (pos 2048) (pos 2048)) gives pixel (triple 2048 2048 2048))
     ∷ []
 
 -- S9: every reading is what the whiteboard says

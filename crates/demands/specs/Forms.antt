@@ -1,7 +1,7 @@
 -- D12 and S12, long boxes (A5): a box says the same in either form.
 use Rattle.std.specs.Prelude.{List, [], ◌∷◌, ℕ}
 use Rattle.answers.specs.Verdict.{given}
-use Rattle.box_rules.specs.Layout.{Part, laid_out_lem, AllSound, InLongForm}
+use Rattle.box_rules.specs.Layout.{Part, laid_out, AllSound, InLongForm}
 use Rattle.demands.specs.Cases.{box, naturals, Case, ◌gives◌, Hold, lpts}
 use Rattle.demands.specs.Practice.{AnsweredAlike, packet, of_lpts, second, practice, start, sos, time, no, StillLive}
 
@@ -9,7 +9,7 @@ use Rattle.demands.specs.Practice.{AnsweredAlike, packet, of_lpts, second, pract
 abbrev pub EitherForm : Type 0
 EitherForm =
     (kind instance : ℕ) (parts parts' : List Part) (fill fill' : ℕ) (behind behind' : List ℕ) → AllSound parts → InLongForm kind instance parts parts'
-    → AnsweredAlike kind instance (laid_out_lem parts fill behind) (laid_out_lem parts' fill' behind')
+    → AnsweredAlike kind instance (laid_out parts fill behind) (laid_out parts' fill' behind')
 
 -- ---- S10's live picture in the long form
 

@@ -7,7 +7,7 @@ use Rattle.box_rules.specs.Walk.{walk, ending}
 use Rattle.box_rules.specs.Packets.{Packet, packets, mine}
 use Rattle.box_rules.specs.Box.{box_bytes}
 use Rattle.box_rules.specs.Order.{Reordered}
-use Rattle.box_rules.specs.Layout.{Part, laid_out_lem, AllSound, SameFor}
+use Rattle.box_rules.specs.Layout.{Part, laid_out, AllSound, SameFor}
 use Rattle.demands.specs.Cases.{box, Result, naturals, Case, ◌gives◌, Hold, lpts}
 
 -- ---- the law
@@ -46,7 +46,7 @@ pub record PracticeApart : Type 0 where
   -- D6, D7, P24: "Other boxes may differ in count, content and position": any two files that are laid out with the same packets of this type and instance;
   -- `own` and the walk, by which both files are read above, have no part in these words
   pub written : (kind instance : ℕ) (parts parts' : List Part) (fill fill' : ℕ) (behind behind' : List ℕ) → AllSound parts → AllSound parts'
-      → SameFor kind instance parts parts' → AnsweredAlike kind instance (laid_out_lem parts fill behind) (laid_out_lem parts' fill' behind')
+      → SameFor kind instance parts parts' → AnsweredAlike kind instance (laid_out parts fill behind) (laid_out parts' fill' behind')
 
 -- ---- pictures: the segments in front of a rest
 

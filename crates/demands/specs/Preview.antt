@@ -296,7 +296,7 @@ ResultsShown =
 
 -- D9, D10: all of these
 pub record PreviewLaws : Type 0 where
-  pub laid_out_lem : LaidOut
+  pub laid_out : LaidOut
   pub samples : SamplesOwe
   pub handed : PreviewsAreGiven
   pub largest : OwedByLargest

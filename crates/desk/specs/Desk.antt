@@ -29,12 +29,12 @@ pub record Called (file : List ℕ) (kind instance : ℕ) (before after : List �
   pub same : r ≡ reply_to answer
 
 -- P23: a file of more bytes than fit is 20: the program's own, which the call never gives
-abbrev pub too_long_lem : Reply
-too_long_lem = Refused (record { number = 20; place = 0; second = 0 })
+abbrev pub too_long : Reply
+too_long = Refused (record { number = 20; place = 0; second = 0 })
 
 -- P23: the file is too long, or the call is asked
 abbrev pub ServedIf : Bool → List ℕ → ℕ → ℕ → List ℕ → List ℕ → Reply → Type 0
-ServedIf true file kind instance before after r = Untouched too_long_lem before after r
+ServedIf true file kind instance before after r = Untouched too_long before after r
 ServedIf false file kind instance before after r = Called file kind instance before after r
 
 -- P21: a file is too long if it has more than `most` bytes

@@ -20,7 +20,7 @@ use Rattle.box_rules.specs.Numbers.{numbers, numbers_from, first_twice, missing_
 use Rattle.box_laws.proofs.Smallest.{pigeonhole}
 use Rattle.scans.specs.declared.Fault.TheVariants.{Fine, Twice, Missing}
 use Rattle.box_rules.specs.Box.{agree, contents, total, joined, assembled, assemble, box_bytes}
-use Rattle.scans.specs.Code.{in_order_lem, mine_of, fault_of}
+use Rattle.scans.specs.Code.{in_order, mine_of, fault_of}
 use Rattle.box_laws.proofs.Reordering.{numbers_length}
 use Rattle.box_laws.proofs.Order.{fine_total}
 use Rattle.scans.proofs.Faults.{fault_fine, fault_twice, fault_missing, told_fine, told_twice, told_missing}
@@ -29,7 +29,7 @@ use Rattle.scans.proofs.InOrder.{order_twice, order_missing}
 -- ---- what is wrong with the numbers: the code's searches, by a walk of the file
 
 module _ (file : List ℕ) (kind instance : ℕ) where
-  pub ordered_fine : in_order_lem 1 (numbers (mine_of file kind instance)) ≡ true → Fine ≡ fault_of (numbers (mine_of file kind instance))
+  pub ordered_fine : in_order 1 (numbers (mine_of file kind instance)) ≡ true → Fine ≡ fault_of (numbers (mine_of file kind instance))
   ordered_fine h = sym (fault_fine _ (order_twice (mine_of file kind instance) h) (order_missing (mine_of file kind instance) h))
 
   missing_of : (n : ℕ) → n ≡ length (mine_of file kind instance) → missing_from n 1 (numbers_from file kind instance 2) ≡ first_missing (numbers (mine_of file kind instance))

@@ -5,7 +5,7 @@ use Rattle.box_rules.specs.Packets.{Packet}
 use Rattle.box_rules.specs.Numbers.{numbers}
 use Rattle.box_rules.specs.Box.{joined}
 use Rattle.scans.specs.declared.Fault.TheVariants.{Fine}
-use Rattle.scans.specs.Code.{in_order_lem, fault_of}
+use Rattle.scans.specs.Code.{in_order, fault_of}
 use Rattle.judging.specs.declared.Ready.{Ready}
 use Rattle.judging.specs.declared.Ready.TheVariants.{Not, Yes}
 
@@ -15,7 +15,7 @@ pub record Whole (ps : List Packet) (room : ℕ) (v : Verdict ℕ) (n sum : ℕ)
   pub size : length (joined ps) ≡ sum
   pub fits : sum ≤ room
   pub many : n ≡ length ps
-  pub order : ordered ≡ in_order_lem 1 (numbers ps)
+  pub order : ordered ≡ in_order 1 (numbers ps)
   pub once : fault_of (numbers ps) ≡ Fine
 
 -- what a verdict is, in the code's words

@@ -18,7 +18,7 @@ use Rattle.bit_rules.specs.Write.{place_of, code_at, word}
 use Rattle.plane_rules.specs.Plane.{the_rules, onto, closed}
 use Rattle.plane_rules.specs.Dc.{new_dc, dc_blocks, read_dc, dc_half, dc_bit, written_dc, write_dc}
 use Rattle.plane_rules.specs.AcRead.{end_run, meaning, task_at, position, block_end, ac_block, cut, ac_blocks, read_ac}
-use Rattle.plane_rules.specs.AcWrite.{ac_half, kind_of, one_more_lem, ahead, quiet, plan, order, emit, write_block, write_blocks, tokens, lacking, spelled, written_ac, write_ac}
+use Rattle.plane_rules.specs.AcWrite.{ac_half, kind_of, one_more, ahead, quiet, plan, order, emit, write_block, write_blocks, tokens, lacking, spelled, written_ac, write_ac}
 use Rattle.plane_cases.proofs.WritingCases.{zeros}
 
 -- ---- DC
@@ -89,7 +89,7 @@ ac_planes =
     ∷ []
 
 pub ac_by_the_rules : map (λ (s : StoredAc). written_ac the_rules 4 s.blocks s.codes s.values (length s.bytes)) ac_planes ≡ map (λ (s : StoredAc). given s.bytes) ac_planes
-unfolding every first_fail or_here in_level is_dc inside first_outside digits stuffed padded packed code_count kraft holds distinct good_table place_of code_at word cut ac_half kind_of one_more_lem ahead quiet plan order emit write_block write_blocks tokens lacking spelled written_ac
+unfolding every first_fail or_here in_level is_dc inside first_outside digits stuffed padded packed code_count kraft holds distinct good_table place_of code_at word cut ac_half kind_of one_more ahead quiet plan order emit write_block write_blocks tokens lacking spelled written_ac
 ac_by_the_rules = refl
 
 pub ac_read_lem : map (λ (s : StoredAc). read_ac 4 s.blocks s.codes (map ac_half s.values) s.bytes (63 * s.blocks)) ac_planes ≡ map (λ (s : StoredAc). given s.values) ac_planes

@@ -13,7 +13,7 @@ use Rattle.bit_rules.specs.Pack.{stuffed, padded, packed}
 use Rattle.bit_rules.specs.Table.{Table, table, code_count, kraft, holds, distinct, good_table}
 use Rattle.bit_rules.specs.Write.{place_of, code_at, word}
 use Rattle.plane_rules.specs.AcRead.{cut}
-use Rattle.plane_rules.specs.AcWrite.{ac_half, kind_of, one_more_lem, ahead, quiet, plan, order, emit, write_block, write_blocks, tokens, lacking, spelled, written_ac, write_ac}
+use Rattle.plane_rules.specs.AcWrite.{ac_half, kind_of, one_more, ahead, quiet, plan, order, emit, write_block, write_blocks, tokens, lacking, spelled, written_ac, write_ac}
 
 -- three codes of two bits: 00, 01, 10
 abbrev pub three_codes : List ℕ → Table
@@ -135,5 +135,5 @@ abbrev pub writings : List Writing
 writings = blocks ++ (runs ++ refusals)
 
 pub cases : map (λ (w : Writing). write_ac w.plane w.blocks w.codes w.values w.room) writings ≡ map (λ (w : Writing). w.verdict) writings
-unfolding every first_fail or_here in_level is_dc inside first_outside digits stuffed padded packed code_count kraft holds distinct good_table place_of code_at word cut ac_half kind_of one_more_lem ahead quiet plan order emit write_block write_blocks tokens lacking spelled written_ac
+unfolding every first_fail or_here in_level is_dc inside first_outside digits stuffed padded packed code_count kraft holds distinct good_table place_of code_at word cut ac_half kind_of one_more ahead quiet plan order emit write_block write_blocks tokens lacking spelled written_ac
 cases = refl

@@ -18,7 +18,7 @@ use Rattle.plane_rules.specs.Plane.{onto, closed}
 use Rattle.plane_rules.specs.Dc.{new_dc, dc_blocks, read_dc, dc_half, dc_bit, written_dc, write_dc}
 use Rattle.bit_rules.specs.Number.{take_number}
 use Rattle.plane_rules.specs.AcRead.{end_run, meaning, task_at, position, block_end, ac_block, cut, ac_blocks, read_ac}
-use Rattle.plane_rules.specs.AcWrite.{ac_half, kind_of, one_more_lem, ahead, quiet, plan, order, emit, write_block, write_blocks, tokens, lacking, written_ac, write_ac}
+use Rattle.plane_rules.specs.AcWrite.{ac_half, kind_of, one_more, ahead, quiet, plan, order, emit, write_block, write_blocks, tokens, lacking, written_ac, write_ac}
 
 -- "Table T: lengths 2, values 00, 01, F0 (codes 00, 01, 10)."
 abbrev pub T : Table
@@ -66,7 +66,7 @@ case_d_write = refl
 
 -- "writer's table lacks a code", "the code's value": a new value at position 1 needs 01
 pub lacking_code : write_ac 1 1 (table (0 ∷ 2 ∷ replicate 14 0) (0x00 ∷ 0xf0 ∷ [])) (block (pos 1)) 8 ≡ refused (refusal 19 1)
-unfolding every first_fail or_here in_level is_dc inside first_outside digits code_count kraft holds distinct good_table place_of cut ac_half kind_of one_more_lem ahead quiet plan order emit write_block write_blocks tokens lacking written_ac
+unfolding every first_fail or_here in_level is_dc inside first_outside digits code_count kraft holds distinct good_table place_of cut ac_half kind_of one_more ahead quiet plan order emit write_block write_blocks tokens lacking written_ac
 lacking_code = refl
 
 -- "Halving a negative AC downward: -3 must give -1, not -2."; DC is halved downward

@@ -16,7 +16,7 @@ use Rattle.bit_rules.specs.Write.{place_of, code_at, word}
 use Rattle.plane_rules.specs.Plane.{the_rules, onto, closed}
 use Rattle.plane_rules.specs.Dc.{new_dc, dc_blocks, read_dc, dc_half, dc_bit, written_dc, write_dc}
 use Rattle.plane_rules.specs.AcRead.{end_run, meaning, task_at, position, block_end, ac_block, cut, ac_blocks, read_ac}
-use Rattle.plane_rules.specs.AcWrite.{ac_half, kind_of, one_more_lem, ahead, quiet, plan, order, emit, write_block, write_blocks, tokens, lacking, spelled, written_ac, write_ac}
+use Rattle.plane_rules.specs.AcWrite.{ac_half, kind_of, one_more, ahead, quiet, plan, order, emit, write_block, write_blocks, tokens, lacking, spelled, written_ac, write_ac}
 use Rattle.plane_rules.proofs.Cases.{block}
 use Rattle.plane_rules.proofs.ReadCases.{Case, ◌gives◌, ◌refuses◌at◌, Holds, zeros, at_five, no_table}
 use Rattle.plane_rules.proofs.WriteCases.{five, only_f0}
@@ -81,7 +81,7 @@ coded =
     ∷ []
 
 pub ac_written_lem : Holds coded
-unfolding every first_fail or_here in_level is_dc inside first_outside digits stuffed padded packed code_count kraft holds distinct good_table place_of code_at word cut ac_half kind_of one_more_lem ahead quiet plan order emit write_block write_blocks tokens lacking spelled written_ac
+unfolding every first_fail or_here in_level is_dc inside first_outside digits stuffed padded packed code_count kraft holds distinct good_table place_of code_at word cut ac_half kind_of one_more ahead quiet plan order emit write_block write_blocks tokens lacking spelled written_ac
 ac_written_lem = refl
 
 -- "Readers go on reading stored pictures that have it.": the bytes above over the halves of their values

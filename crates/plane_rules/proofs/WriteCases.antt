@@ -16,7 +16,7 @@ use Rattle.bit_rules.specs.Write.{place_of, code_at, word}
 use Rattle.plane_rules.specs.Dc.{dc_half, dc_bit, written_dc, write_dc}
 use Rattle.plane_rules.specs.Task.{walk, ended}
 use Rattle.plane_rules.specs.AcRead.{cut}
-use Rattle.plane_rules.specs.AcWrite.{ac_half, keep, still, fresh, kind_of, one_more_lem, ahead, quiet, plan, order, class, emit, after, write_block, write_blocks, tokens, lacking, spelled, written_ac, write_ac}
+use Rattle.plane_rules.specs.AcWrite.{ac_half, keep, still, fresh, kind_of, one_more, ahead, quiet, plan, order, class, emit, after, write_block, write_blocks, tokens, lacking, spelled, written_ac, write_ac}
 use Rattle.plane_rules.proofs.Cases.{block}
 use Rattle.plane_rules.proofs.ReadCases.{Case, ◌gives◌, ◌refuses◌at◌, Holds, zeros, at_five, no_table}
 
@@ -90,7 +90,7 @@ ac_order =
     ∷ []
 
 pub ac_order_lem : Holds ac_order
-unfolding every first_fail or_here in_level is_dc inside first_outside digits stuffed padded packed code_count kraft holds distinct good_table place_of code_at word cut ac_half kind_of one_more_lem ahead quiet plan order emit write_block write_blocks tokens lacking spelled written_ac
+unfolding every first_fail or_here in_level is_dc inside first_outside digits stuffed padded packed code_count kraft holds distinct good_table place_of code_at word cut ac_half kind_of one_more ahead quiet plan order emit write_block write_blocks tokens lacking spelled written_ac
 ac_order_lem = refl
 
 abbrev ac_writes : List (Case ℕ)
@@ -121,7 +121,7 @@ ac_writes =
     ∷ []
 
 pub ac_writes_lem : Holds ac_writes
-unfolding every first_fail or_here in_level is_dc inside first_outside digits stuffed padded packed code_count kraft holds distinct good_table place_of code_at word cut ac_half kind_of one_more_lem ahead quiet plan order emit write_block write_blocks tokens lacking spelled written_ac
+unfolding every first_fail or_here in_level is_dc inside first_outside digits stuffed padded packed code_count kraft holds distinct good_table place_of code_at word cut ac_half kind_of one_more ahead quiet plan order emit write_block write_blocks tokens lacking spelled written_ac
 ac_writes_lem = refl
 
 -- r of a run: "2^r + e", r below 15

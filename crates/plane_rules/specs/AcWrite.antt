@@ -43,15 +43,15 @@ unfoldable pub kind_of : ℤ → Kind
 kind_of value = cond (eqb (nat_abs (ac_half value)) 0) (from_zero value) (keep (ltb (2 * nat_abs (ac_half value)) (nat_abs value)))
 
 -- E6: one zero more before the next new value
-unfoldable pub one_more_lem : Option (ℕ × Bool) → Option (ℕ × Bool)
-one_more_lem none = none
-one_more_lem (some p) = some (suc p.0, p.1)
+unfoldable pub one_more : Option (ℕ × Bool) → Option (ℕ × Bool)
+one_more none = none
+one_more (some p) = some (suc p.0, p.1)
 
 -- E6: the zeros before the next new value, and its sign; nothing if no new value is left in the block
 unfoldable pub ahead : List Kind → Option (ℕ × Bool)
 ahead [] = none
 ahead (keep b ∷ kinds) = ahead kinds
-ahead (still ∷ kinds) = one_more_lem (ahead kinds)
+ahead (still ∷ kinds) = one_more (ahead kinds)
 ahead (fresh b ∷ kinds) = some (0, b)
 
 -- E8: one block more, unless it has a new value

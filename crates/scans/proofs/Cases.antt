@@ -10,17 +10,17 @@ use Rattle.box_rules.specs.Numbers.{count, least, first_twice, missing_from, fir
 use Rattle.box_rules.specs.Box.{alike}
 use Rattle.scans.specs.declared.Scan.{Scan}
 use Rattle.scans.specs.declared.Fault.TheVariants.{Fine, Twice, Missing}
-use Rattle.scans.specs.Code.{mine_of, found_more, in_order_lem, rises, fault_of}
+use Rattle.scans.specs.Code.{mine_of, found_more, in_order, rises, fault_of}
 
 -- numbers in order or not, rising or not; 6 before 7
-pub words : (in_order_lem 1 (1 ∷ 2 ∷ 3 ∷ []) ≡ true)
-    × (in_order_lem 1 (1 ∷ 3 ∷ 2 ∷ []) ≡ false)
+pub words : (in_order 1 (1 ∷ 2 ∷ 3 ∷ []) ≡ true)
+    × (in_order 1 (1 ∷ 3 ∷ 2 ∷ []) ≡ false)
     × (rises 0 (0 ∷ 2 ∷ 5 ∷ []) ≡ true)
     × (rises 0 (0 ∷ 2 ∷ 2 ∷ []) ≡ false)
     × (fault_of (2 ∷ 2 ∷ []) ≡ Twice 2)
     × (fault_of (2 ∷ 3 ∷ []) ≡ Missing 1)
     × (fault_of (2 ∷ 1 ∷ []) ≡ Fine)
-unfolding count least first_twice missing_from first_missing in_order_lem rises fault_of
+unfolding count least first_twice missing_from first_missing in_order rises fault_of
 words = (refl, refl, refl, refl, refl, refl, refl)
 
 abbrev stating : ℕ → ℕ → Head

@@ -14,29 +14,29 @@ use Rattle.box_rules.specs.Numbers.{numbers, count, first_twice, first_missing}
 use Rattle.box_laws.proofs.Smallest.{twice_none}
 use Rattle.box_rules.specs.Box.{joined}
 use Rattle.box_rules.specs.Order.{counting, payloads}
-use Rattle.scans.specs.Code.{in_order_lem, rises}
+use Rattle.scans.specs.Code.{in_order, rises}
 use Rattle.box_laws.proofs.Reordering.{numbers_length}
 use Rattle.box_laws.proofs.Order.{low, reads_joined, reads_missing, reads_twice}
 
-order_reads : (ns : List ℕ) (q : ℕ) → in_order_lem q ns ≡ true → ns ≡ counting q (length ns)
-unfolding in_order_lem counting
+order_reads : (ns : List ℕ) (q : ℕ) → in_order q ns ≡ true → ns ≡ counting q (length ns)
+unfolding in_order counting
 order_reads [] q h = refl
 order_reads (x ∷ r) q h =
-    ap₂ (λ (y : ℕ) (l : List ℕ). y ∷ l) (eqb-true x q (cond_left (eqb x q) (in_order_lem (suc q) r) h))
-    (order_reads r (suc q) (cond_right (eqb x q) (in_order_lem (suc q) r) h))
+    ap₂ (λ (y : ℕ) (l : List ℕ). y ∷ l) (eqb-true x q (cond_left (eqb x q) (in_order (suc q) r) h))
+    (order_reads r (suc q) (cond_right (eqb x q) (in_order (suc q) r) h))
 
-module _ (ps : List Packet) (h : in_order_lem 1 (numbers ps) ≡ true) where
-  in_order : numbers ps ≡ counting 1 (length ps)
-  in_order = order_reads (numbers ps) 1 h ∙ ap (counting 1) (numbers_length ps)
+module _ (ps : List Packet) (h : in_order 1 (numbers ps) ≡ true) where
+  in_order_lem : numbers ps ≡ counting 1 (length ps)
+  in_order_lem = order_reads (numbers ps) 1 h ∙ ap (counting 1) (numbers_length ps)
 
   pub order_twice : first_twice (numbers ps) ≡ Nothing
-  order_twice = reads_twice ps in_order
+  order_twice = reads_twice ps in_order_lem
 
   pub order_missing : first_missing (numbers ps) ≡ Nothing
-  order_missing = reads_missing ps in_order
+  order_missing = reads_missing ps in_order_lem
 
   pub order_joined : joined ps ≡ payloads ps
-  order_joined = reads_joined ps in_order
+  order_joined = reads_joined ps in_order_lem
 
 -- numbers that rise: none stands twice
 rises_from : (ns : List ℕ) (a : ℕ) → rises a ns ≡ true → (q : ℕ) → (count q ns ≤ 1) × (q < a → count q ns ≡ 0)

@@ -15,7 +15,7 @@ use Rattle.box_rules.specs.Walk.{steps_from, walk_from, walk, ending}
 use Rattle.box_rules.proofs.Walking.{part_length, walk_on}
 use Rattle.box_rules.specs.Numbers.{numbers}
 use Rattle.box_rules.specs.Box.{alike, agree, total}
-use Rattle.scans.specs.Code.{in_order_lem, rises, mine_of, Scanned, found_more}
+use Rattle.scans.specs.Code.{in_order, rises, mine_of, Scanned, found_more}
 use Rattle.scans.specs.declared.Scan.{Scan}
 
 -- counts, totals and tests of what was met and what is left
@@ -23,21 +23,21 @@ record Scanning (all rest : List Packet) (h : Head) (n tot : ℕ) (ag ord ris : 
   lengths : n + length rest ≡ length all
   totals : tot + total rest ≡ total all
   agrees : cond ag (agree h rest) false ≡ agree h all
-  orders : cond ord (in_order_lem (n + 1) (numbers rest)) false ≡ in_order_lem 1 (numbers all)
+  orders : cond ord (in_order (n + 1) (numbers rest)) false ≡ in_order 1 (numbers all)
   rising : cond ris (rises a (numbers rest)) false ≡ rises 0 (numbers all)
 
 scan_more : {all r : List Packet} {p : Packet} {h : Head} {n tot : ℕ} {ag ord ris : Bool} {a : ℕ} → Scanning all (p ∷ r) h n tot ag ord ris a
     → Scanning all r h (n + 1) (tot + length p.payload) (cond ag (alike h p.head) false) (cond ord (eqb p.head.number (n + 1)) false)
     (cond ris (leb a p.head.number) false) (p.head.number + 1)
-unfolding total agree numbers in_order_lem rises
+unfolding total agree numbers in_order rises
 scan_more {all} {r} {p} {h} {n} {tot} {ag} {ord} {ris} {a} s =
     let q : ℕ = p.head.number in
     record {
       lengths = let g = s.lengths in omega arith;
       totals = let g = s.totals in omega arith;
       agrees = cond_cond ag (alike h p.head) (agree h r) ∙ s.agrees;
-      orders = ap (λ (k : ℕ). cond (cond ord (eqb q (n + 1)) false) (in_order_lem k (numbers r)) false) (add-one (n + 1))
-          ∙ cond_cond ord (eqb q (n + 1)) (in_order_lem (suc (n + 1)) (numbers r)) ∙ s.orders;
+      orders = ap (λ (k : ℕ). cond (cond ord (eqb q (n + 1)) false) (in_order k (numbers r)) false) (add-one (n + 1))
+          ∙ cond_cond ord (eqb q (n + 1)) (in_order (suc (n + 1)) (numbers r)) ∙ s.orders;
       rising = ap (λ (k : ℕ). cond (cond ris (leb a q) false) (rises k (numbers r)) false) (add-one q) ∙ cond_cond ris (leb a q) (rises (suc q) (numbers r)) ∙ s.rising;
     }
 
@@ -65,7 +65,7 @@ module _ (file : List ℕ) (kind instance : ℕ) (h : Head) where
         })
 
     pub pass_end : mine_from file kind instance s.end ≡ [] → Scanned (mine_of file kind instance) h s
-    unfolding total agree numbers in_order_lem rises
+    unfolding total agree numbers in_order rises
     pass_end e =
         let g : Scanning (mine_of file kind instance) [] h s.n s.total s.agree s.ordered s.rising s.above =
         subst (λ (x : List Packet). Scanning (mine_of file kind instance) x h s.n s.total s.agree s.ordered s.rising s.above) e p.scanning in

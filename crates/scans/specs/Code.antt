@@ -15,9 +15,9 @@ abbrev pub mine_of : List ℕ → ℕ → ℕ → List Packet
 mine_of file kind instance = mine_from file kind instance 2
 
 -- the tests of a pass in file order: the numbers read q, q + 1, ..; each is above those before it, the first at least a
-unfoldable pub in_order_lem : ℕ → List ℕ → Bool
-in_order_lem q [] = true
-in_order_lem q (x ∷ r) = cond (eqb x q) (in_order_lem (suc q) r) false
+unfoldable pub in_order : ℕ → List ℕ → Bool
+in_order q [] = true
+in_order q (x ∷ r) = cond (eqb x q) (in_order (suc q) r) false
 
 unfoldable pub rises : ℕ → List ℕ → Bool
 rises a [] = true
@@ -28,7 +28,7 @@ pub record Scanned (ps : List Packet) (h : Head) (r : Scan) : Type 0 where
   pub lengths : r.n ≡ length ps
   pub totals : r.total ≡ total ps
   pub agrees : r.agree ≡ agree h ps
-  pub orders : r.ordered ≡ in_order_lem 1 (numbers ps)
+  pub orders : r.ordered ≡ in_order 1 (numbers ps)
   pub rising : r.rising ≡ rises 0 (numbers ps)
 
 -- what a pass has found behind one packet more, which has a head, len bytes of payload and the next segment at `next`

@@ -4,7 +4,7 @@
 ghost use Rattle.std.specs.Prelude.{◌≡◌, ◌-◌, pos, length, eqb};
 ghost use Rattle.laws.specs.First.{first_fail};
 ghost use Rattle.test_rules.specs.Wanted.{wanted, is_wanted, same_value, right as Wanted·right};
-ghost use Rattle.test_rules.specs.Runs.{goes_on_lem, counted as Runs·counted, begun as Runs·begun, next_run};
+ghost use Rattle.test_rules.specs.Runs.{goes_on, counted as Runs·counted, begun as Runs·begun, next_run};
 
 use answers::Answer;
 use laws::Found;
@@ -154,7 +154,7 @@ pub fn begun(bytes: &[u8]) -> Run
 
 // Whether a record of the same group follows.
 fn goes_on(left: usize, group: usize, next: usize) -> bool
-    ensures { result ≡ goes_on_lem left group next }
+    ensures { result ≡ goes_on left group next }
 {
     if left == 0 {
         return false;

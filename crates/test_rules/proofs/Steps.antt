@@ -7,9 +7,9 @@ use native.Mathlib.Omega.{arith}
 use Rattle.test_rules.specs.Fields.{number_at}
 use Rattle.test_rules.specs.declared.Finding.{Finding}
 use Rattle.test_rules.specs.declared.Run.{Run}
-use Rattle.test_rules.specs.Runs.{counted, goes_on_lem, moved, next_run}
+use Rattle.test_rules.specs.Runs.{counted, goes_on, moved, next_run}
 
-pub next_run_is : (bytes : List ℕ) (r : Run) (ran : Finding) {k : Run} {group : ℕ} {same : Bool} → k ≡ counted r ran.good → group ≡ number_at bytes ran.next → same ≡ goes_on_lem k.left k.group group → moved same k ran.next group ≡ next_run bytes r ran
+pub next_run_is : (bytes : List ℕ) (r : Run) (ran : Finding) {k : Run} {group : ℕ} {same : Bool} → k ≡ counted r ran.good → group ≡ number_at bytes ran.next → same ≡ goes_on k.left k.group group → moved same k ran.next group ≡ next_run bytes r ran
 unfolding next_run
 next_run_is bytes r ran e f g = rw (g, e, f)
 

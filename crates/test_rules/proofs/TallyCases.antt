@@ -10,7 +10,7 @@ use Rattle.answers.specs.declared.Answer.{Answer}
 use Rattle.test_rules.specs.Fields.{pair_at, number_at}
 use Rattle.test_rules.specs.declared.Run.{Run}
 use Rattle.test_rules.specs.Wanted.{wanted, is_wanted, same_value, nothing, right}
-use Rattle.test_rules.specs.Runs.{begun, counted, goes_on_lem, moved, next_run}
+use Rattle.test_rules.specs.Runs.{begun, counted, goes_on, moved, next_run}
 
 -- what is expected, behind it what stood there, and zeros after a refusal
 pub left : map (wanted {A = ℕ} 0 7 (5 ∷ 6 ∷ []) 0) (0 ∷ 1 ∷ 2 ∷ []) ≡ 5 ∷ 6 ∷ 7 ∷ []
@@ -47,13 +47,13 @@ file = 3 ∷ 0 ∷ 0 ∷ 0 ∷ 8 ∷ 0 ∷ 0 ∷ 0 ∷ 20 ∷ 0 ∷ 0 ∷ 0 ∷ 
 
 pub runs : begun file ∷ next_run file (run 8 3 20 0 0) (record { good = true; next = 12 }) ∷ next_run file (run 12 2 20 1 1) (record { good = false; next = 16 }) ∷ []
     ≡ run 8 3 20 0 0 ∷ run 12 2 20 1 1 ∷ run 16 1 30 0 0 ∷ []
-unfolding begun counted goes_on_lem moved next_run pair_at number_at
+unfolding begun counted goes_on moved next_run pair_at number_at
 runs = refl
 
 pub tallied : (counted (run 8 3 20 4 5) true ≡ run 8 2 20 5 6) × (counted (run 8 3 20 4 5) false ≡ run 8 2 20 4 6)
 unfolding counted
 tallied = (refl, refl)
 
-pub same_group : goes_on_lem 0 20 20 ∷ goes_on_lem 1 20 20 ∷ goes_on_lem 1 20 30 ∷ [] ≡ false ∷ true ∷ false ∷ []
-unfolding goes_on_lem
+pub same_group : goes_on 0 20 20 ∷ goes_on 1 20 20 ∷ goes_on 1 20 30 ∷ [] ≡ false ∷ true ∷ false ∷ []
+unfolding goes_on
 same_group = refl

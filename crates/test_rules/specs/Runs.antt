@@ -13,8 +13,8 @@ counted r true = record { at = r.at; left = r.left - 1; group = r.group; right =
 counted r false = record { at = r.at; left = r.left - 1; group = r.group; right = r.right % 1000000; all = r.all % 1000000 + 1 }
 
 -- a record of the same group follows
-unfoldable pub goes_on_lem : ℕ → ℕ → ℕ → Bool
-goes_on_lem left group next = cond (eqb left 0) false (eqb group next)
+unfoldable pub goes_on : ℕ → ℕ → ℕ → Bool
+goes_on left group next = cond (eqb left 0) false (eqb group next)
 
 -- a group that ends leaves no counts
 unfoldable pub moved : Bool → Run → ℕ → ℕ → Run
@@ -22,5 +22,5 @@ moved same r at group = record { at = at; left = r.left; group = group; right = 
 
 unfoldable pub next_run : List ℕ → Run → Finding → Run
 next_run bytes r ran =
-    moved (goes_on_lem (counted r ran.good).left (counted r ran.good).group (number_at bytes ran.next))
+    moved (goes_on (counted r ran.good).left (counted r ran.good).group (number_at bytes ran.next))
     (counted r ran.good) ran.next (number_at bytes ran.next)

@@ -26,7 +26,7 @@ use Rattle.plane_rules.specs.Task.{Task, walk, ended, unit, at_zero}
 use Rattle.bit_rules.specs.Number.{take_number}
 use Rattle.plane_rules.specs.AcRead.{end_run, meaning, task_at, position, block_end, ac_block, ac_blocks}
 use Rattle.plane_rules.proofs.Halves.{kind_zero, kind_one, kind_minus_one, kind_up, kind_down}
-use Rattle.plane_rules.specs.AcWrite.{ac_half, Kind, keep, still, fresh, kind_of, one_more_lem, ahead, unless_new, quiet, planned, plan, Token, code, raw, order, class, emit, mark, after, write_block, write_blocks, or_else, lacking, spelled}
+use Rattle.plane_rules.specs.AcWrite.{ac_half, Kind, keep, still, fresh, kind_of, one_more, ahead, unless_new, quiet, planned, plan, Token, code, raw, order, class, emit, mark, after, write_block, write_blocks, or_else, lacking, spelled}
 
 -- ---- tokens
 
@@ -110,13 +110,13 @@ never {p} e = none-ne-some p e
 same : {p q : ℕ × Bool} → ◌≡◌ {A = Option (ℕ × Bool)} (some p) (some q) → p ≡ q
 same {p} {q} e = some-injective p q e
 
-more_none : (o : Option (ℕ × Bool)) → one_more_lem o ≡ none → o ≡ none
-unfolding one_more_lem
+more_none : (o : Option (ℕ × Bool)) → one_more o ≡ none → o ≡ none
+unfolding one_more
 more_none none e = refl
 more_none (some p) e = absurd (never (sym e))
 
-more_some : (o : Option (ℕ × Bool)) (p : ℕ × Bool) → one_more_lem o ≡ some p → (q : ℕ × Bool) × (o ≡ some q) × (p ≡ (suc q.0, q.1))
-unfolding one_more_lem
+more_some : (o : Option (ℕ × Bool)) (p : ℕ × Bool) → one_more o ≡ some p → (q : ℕ × Bool) × (o ≡ some q) × (p ≡ (suc q.0, q.1))
+unfolding one_more
 more_some none p e = absurd (never e)
 more_some (some q) p e = (q, refl, sym (same e))
 

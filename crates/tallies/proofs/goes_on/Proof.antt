@@ -1,15 +1,15 @@
 -- `tallies::goes_on` meets its contract. Assumes nothing.
 use borrow.Author.Tests.{eq-eqb, ne_eqb}
-use Rattle.test_rules.specs.Runs.{goes_on_lem}
+use Rattle.test_rules.specs.Runs.{goes_on}
 use Rattle.tallies.proofs.goes_on.Statement.{statement}
 use Rattle.tallies.proofs.goes_on.Tie as tie
 
 returns : tie.Need-returns
-unfolding goes_on_lem
+unfolding goes_on
 returns c = rw (eq-eqb _ _ c.if1.true)
 
 returns-2 : tie.Need-returns-2
-unfolding goes_on_lem
+unfolding goes_on
 returns-2 c = rw (ne_eqb _ _ c.if1.false)
 
 pub goes-on-spec : {M : Type 1} → statement M

@@ -1,0 +1,17 @@
+-- `asking::type_of` meets its contract. Assumes nothing.
+use Rattle.asking.specs.Words.{type_of}
+use borrow.Author.Tests.{eq-eqb, ne_eqb}
+use borrow.Author.Rules.{rules}
+use Rattle.asking.proofs.type_of.Goals as goal
+
+pub returns-then-word-eq4 : goal.returns-then-word-eq4
+unfolding type_of
+returns-then-word-eq4 c = rw (eq-eqb _ _ c.if-word-eq4.true, ← c.wide.ensures.0, ← c.wide-then-word-eq4.ensures.0, ← c.wide-then-word-eq4-2.ensures.0, ← c.wide-then-word-eq4-3.ensures.0)
+
+pub returns-then-word-eq8 : goal.returns-then-word-eq8
+unfolding type_of
+returns-then-word-eq8 c = rw (ne_eqb _ _ c.if-word-eq4.false, eq-eqb _ _ c.if-word-eq8.true) c.read_number.ensures
+
+pub returns : goal.returns
+unfolding type_of
+returns c = rw (ne_eqb _ _ c.if-word-eq4.false, ne_eqb _ _ c.if-word-eq8.false)
