@@ -1,0 +1,15 @@
+-- `records::past` meets its contract. Assumes nothing.
+use mathlib.Core.Path.{sym}
+use native.Mathlib.Omega.{arith}
+use Rattle.test_rules.proofs.Fields.{on_inside, on_end}
+use borrow.Author.Rules.{rules}
+use Rattle.records.proofs.past.Goals as goal
+
+pub returns-then-n-length : goal.returns-then-n-length
+returns-then-n-length c = sym (on_inside _ _ _ (omega arith))
+
+pub returns-else-n-length : goal.returns-else-n-length
+returns-else-n-length c = sym (on_end _ _ _ (omega arith))
+
+pub returns-else-at-length : goal.returns-else-at-length
+returns-else-at-length c = sym (on_end _ _ _ (omega arith))
