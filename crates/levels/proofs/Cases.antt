@@ -1,9 +1,8 @@
 -- The ranges (L3, L4) at both sides of each edge, and which index is DC, worked out by hand. Assumes nothing.
 use mathlib.Core.Path.{◌≡◌, refl}
-use mathlib.Core.Bool.{Bool, true, false}
-use mathlib.Core.List.{List, [], ◌∷◌, ◌++◌, map}
-use Prim.Native.Nat.{ℕ}
-use lib.IntN.{ℤ, pos, negsuc}
+use mathlib.Core.Bool.{true, false}
+use mathlib.Core.List.{[], ◌∷◌, ◌++◌, map}
+use lib.IntN.{pos, negsuc}
 use lib.ListN.{replicate}
 use Rattle.laws.specs.First.{first_fail, or_here}
 use Rattle.laws.specs.declared.Found.TheVariants.{At, Nothing}

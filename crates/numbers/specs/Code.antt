@@ -2,7 +2,7 @@
 use Rattle.std.specs.Prelude.{ℕ, ◌≤◌, ◌<◌, List, [], ◌∷◌, cond}
 use Rattle.laws.specs.declared.Found.{Found}
 use Rattle.laws.specs.declared.Found.TheVariants.{At, Nothing}
-use Rattle.box_rules.specs.Numbers.{count, numbers, within}
+use Rattle.box_rules.specs.Numbers.{count, within}
 
 -- those that lie there
 unfoldable pub chosen : ℕ → ℕ → List ℕ → List ℕ

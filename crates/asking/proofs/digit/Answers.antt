@@ -3,7 +3,6 @@ use Rattle.asking.specs.Words.{digit}
 use mathlib.Core.Path.{refl}
 use native.Mathlib.Omega.{arith}
 use borrow.Author.Tests.{lt-ltb, le-ltb}
-use borrow.Author.Rules.{rules}
 use Rattle.asking.proofs.digit.Goals as goal
 
 pub returns-then-b-lt48 : goal.returns-then-b-lt48

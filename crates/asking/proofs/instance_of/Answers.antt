@@ -2,7 +2,6 @@
 use Rattle.asking.specs.Words.{instance_of}
 use borrow.Author.Tests.{le-leb, lt-leb, eq-eqb, ne_eqb}
 use mathlib.Core.Path.{sym, ◌∙◌}
-use borrow.Author.Rules.{rules}
 use Rattle.asking.proofs.instance_of.Goals as goal
 
 pub returns-then-word-eq0 : goal.returns-then-word-eq0

@@ -1,12 +1,10 @@
 -- `asking::read_number` meets its contract: what the rest makes behind the value is what the word makes.
 use Rattle.asking.proofs.Reading.{read_large, read_other, read_more, read_end}
-use Rattle.asking.specs.Words.{digit, read_from}
+use Rattle.asking.specs.Words.{digit}
 use native.Mathlib.Nat.{mul-le-mul_right}
-use lib.ListN.{length, drop, get_or, drop_of_length-le}
-use Prim.Native.Nat.{◌-◌, ◌<◌}
+use lib.ListN.{get_or, drop_of_length-le}
 use mathlib.Core.Path.{◌≡◌, refl, sym, ap, ◌∙◌}
 use native.Mathlib.Omega.{arith}
-use borrow.Author.Rules.{rules}
 use Rattle.asking.proofs.read_number.Goals as goal
 
 pub loop-i-init : goal.loop-i-init

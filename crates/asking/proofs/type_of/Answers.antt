@@ -1,7 +1,6 @@
 -- `asking::type_of` meets its contract. Assumes nothing.
 use Rattle.asking.specs.Words.{type_of}
 use borrow.Author.Tests.{eq-eqb, ne_eqb}
-use borrow.Author.Rules.{rules}
 use Rattle.asking.proofs.type_of.Goals as goal
 
 pub returns-then-word-eq4 : goal.returns-then-word-eq4

@@ -2,7 +2,6 @@
 use Rattle.answers.proofs.Laws.{tried_refused}
 use Rattle.boxes.proofs.Handing.{number_room, put_tried, order_room, order_tried, ready_yes, ready_not}
 use mathlib.Core.Path.{refl}
-use borrow.Author.Rules.{rules}
 use Rattle.boxes.proofs.try_box.Goals as goal
 
 pub put_in_order-requires : goal.put_in_order-requires

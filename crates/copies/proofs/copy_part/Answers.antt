@@ -1,11 +1,10 @@
 -- `copies::copy_part` meets its contract: i bytes of the part are pasted.
 use Rattle.copies.proofs.Puts.{paste_put, copy_turn}
 use lib.Seq.{paste, paste-zero}
-use lib.ListN.{length, drop, length-set, length-drop}
-use Prim.Native.Nat.{ℕ, ◌-◌, ◌≤◌}
+use lib.ListN.{drop, length-set, length-drop}
+use Prim.Native.Nat.{ℕ}
 use mathlib.Core.Path.{◌≡◌, refl, ap, ◌∙◌}
 use native.Mathlib.Omega.{arith}
-use borrow.Author.Rules.{rules}
 use Rattle.copies.proofs.copy_part.Goals as goal
 
 pub loop-i-init : goal.loop-i-init

@@ -1,11 +1,8 @@
 -- What the loops of `copies::copy_part` keep, and what goes down.
-use Rattle.copies.proofs.Puts.{paste_put, copy_turn}
-use lib.Seq.{paste, paste-zero}
-use lib.ListN.{length, drop, length-set, length-drop}
-use Prim.Native.Nat.{ℕ, ◌-◌, ◌≤◌}
-use mathlib.Core.Path.{◌≡◌, refl, ap, ◌∙◌}
-use native.Mathlib.Omega.{arith}
-use borrow.Author.Rules.{rules}
+use lib.Seq.{paste}
+use lib.ListN.{length, drop}
+use Prim.Native.Nat.{◌-◌, ◌≤◌}
+use mathlib.Core.Path.{◌≡◌}
 use Rattle.copies.proofs.copy_part.Given as goal
 
 abbrev pub invariant-loop-i : goal.invariant-loop-i

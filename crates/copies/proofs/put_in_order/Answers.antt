@@ -1,13 +1,7 @@
 -- `copies::put_in_order` meets its contract: what is left to write here is the whole at the front.
 use Rattle.packets.proofs.Meeting.{met, gone}
-use Rattle.copies.proofs.Puts.{Writing, write_start, write_done, payload_turn, payloads_none}
-use Rattle.box_rules.specs.Order.{payloads}
-use Rattle.scans.specs.Code.{mine_of}
-use Rattle.box_rules.specs.Packets.{mine_from}
-use lib.ListN.{length}
-use Prim.Native.Nat.{◌-◌}
+use Rattle.copies.proofs.Puts.{write_start, write_done, payload_turn, payloads_none}
 use native.Mathlib.Omega.{arith}
-use borrow.Author.Rules.{rules}
 use Rattle.copies.proofs.put_in_order.Goals as goal
 
 pub loop-destination-init : goal.loop-destination-init

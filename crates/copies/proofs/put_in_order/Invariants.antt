@@ -1,13 +1,10 @@
 -- What the loops of `copies::put_in_order` keep, and what goes down.
-use Rattle.packets.proofs.Meeting.{met, gone}
-use Rattle.copies.proofs.Puts.{Writing, write_start, write_done, payload_turn, payloads_none}
+use Rattle.copies.proofs.Puts.{Writing}
 use Rattle.box_rules.specs.Order.{payloads}
 use Rattle.scans.specs.Code.{mine_of}
 use Rattle.box_rules.specs.Packets.{mine_from}
 use lib.ListN.{length}
 use Prim.Native.Nat.{◌-◌}
-use native.Mathlib.Omega.{arith}
-use borrow.Author.Rules.{rules}
 use Rattle.copies.proofs.put_in_order.Given as goal
 
 abbrev pub invariant-loop-destination : goal.invariant-loop-destination

@@ -1,10 +1,7 @@
 -- `copies::put_window` meets its contract: what is left to write here is the window at the start.
 use Rattle.packets.proofs.Meeting.{met, gone}
 use Rattle.copies.proofs.Windows.{joined_none, window_start, place_there, window_turn}
-use Rattle.copies.proofs.Puts.{Writing, write_done}
-use Rattle.box_rules.specs.Box.{joined_from}
-use Rattle.scans.specs.Code.{mine_of}
-use Prim.Native.Nat.{◌+◌, ◌-◌, ◌≤◌}
+use Rattle.copies.proofs.Puts.{write_done}
 use native.Mathlib.Omega.{arith}
 use borrow.Author.Rules.{rules}
 use Rattle.copies.proofs.put_window.Goals as goal

@@ -1,12 +1,8 @@
 -- What the loops of `copies::put_window` keep, and what goes down.
-use Rattle.packets.proofs.Meeting.{met, gone}
-use Rattle.copies.proofs.Windows.{joined_none, window_start, place_there, window_turn}
-use Rattle.copies.proofs.Puts.{Writing, write_done}
+use Rattle.copies.proofs.Puts.{Writing}
 use Rattle.box_rules.specs.Box.{joined_from}
 use Rattle.scans.specs.Code.{mine_of}
 use Prim.Native.Nat.{◌+◌, ◌-◌, ◌≤◌}
-use native.Mathlib.Omega.{arith}
-use borrow.Author.Rules.{rules}
 use Rattle.copies.proofs.put_window.Given as goal
 
 abbrev pub invariant-loop-i : goal.invariant-loop-i

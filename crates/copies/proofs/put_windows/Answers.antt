@@ -1,11 +1,7 @@
 -- `copies::put_windows` meets its contract: what is left to write here is the whole at the front.
 use Rattle.copies.proofs.Windows.{joined_none, joined_start, windows_turn}
-use Rattle.copies.proofs.Puts.{Writing, write_done}
-use Rattle.box_rules.specs.Box.{joined_from, joined}
-use Rattle.scans.specs.Code.{mine_of}
-use lib.ListN.{length}
-use Prim.Native.Nat.{◌+◌, ◌-◌, ◌≤◌}
-use mathlib.Core.Path.{◌≡◌, refl}
+use Rattle.copies.proofs.Puts.{write_done}
+use mathlib.Core.Path.{refl}
 use native.Mathlib.Omega.{arith}
 use borrow.Author.Rules.{rules}
 use Rattle.copies.proofs.put_windows.Goals as goal

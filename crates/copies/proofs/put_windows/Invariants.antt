@@ -1,13 +1,10 @@
 -- What the loops of `copies::put_windows` keep, and what goes down.
-use Rattle.copies.proofs.Windows.{joined_none, joined_start, windows_turn}
-use Rattle.copies.proofs.Puts.{Writing, write_done}
+use Rattle.copies.proofs.Puts.{Writing}
 use Rattle.box_rules.specs.Box.{joined_from, joined}
 use Rattle.scans.specs.Code.{mine_of}
 use lib.ListN.{length}
 use Prim.Native.Nat.{◌+◌, ◌-◌, ◌≤◌}
-use mathlib.Core.Path.{◌≡◌, refl}
-use native.Mathlib.Omega.{arith}
-use borrow.Author.Rules.{rules}
+use mathlib.Core.Path.{◌≡◌}
 use Rattle.copies.proofs.put_windows.Given as goal
 
 abbrev pub invariant-loop-passed : goal.invariant-loop-passed

@@ -2,7 +2,6 @@
 use mathlib.Core.Path.{refl, sym, ◌∙◌}
 use borrow.Author.Tests.{lt-ltb, le-ltb}
 use Rattle.desk.specs.Desk.{Replies}
-use borrow.Author.Rules.{rules}
 use Rattle.desk.proofs.asked.Goals as goal
 
 pub returns-then-k-gt4294967295 : goal.returns-then-k-gt4294967295

@@ -1,6 +1,5 @@
 -- `desk::say` meets its contract. Assumes nothing.
 use Rattle.desk.specs.Desk.{served}
-use borrow.Author.Rules.{rules}
 use Rattle.desk.proofs.say.Goals as goal
 
 pub returns-in-Usage : goal.returns-in-Usage

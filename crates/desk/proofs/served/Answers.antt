@@ -2,7 +2,6 @@
 use mathlib.Core.Path.{refl}
 use borrow.Author.Tests.{lt-ltb, le-ltb}
 use Rattle.desk.specs.Desk.{reply_to, Served}
-use borrow.Author.Rules.{rules}
 use Rattle.desk.proofs.served.Goals as goal
 
 pub returns-then-most-file : goal.returns-then-most-file

@@ -3,7 +3,6 @@ use native.Mathlib.Omega.{arith}
 use Rattle.judging.proofs.Answers.{answer_5, answer_6, answer_7, answer_8, answer_size, answer_9, answer_0}
 use borrow.Author.Tests.{not-true, not-false}
 use mathlib.Core.Path.{sym, ◌∙◌}
-use borrow.Author.Rules.{rules}
 use Rattle.judging.proofs.checked.Goals as goal
 
 pub returns-then-not-c : goal.returns-then-not-c

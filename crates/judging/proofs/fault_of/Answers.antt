@@ -2,7 +2,6 @@
 use Rattle.scans.proofs.InOrder.{rises_twice}
 use Rattle.judging.proofs.Answers.{ordered_fine, searched_fine, searched_twice, searched_once, searched_missing}
 use mathlib.Core.Path.{sym, ◌∙◌}
-use borrow.Author.Rules.{rules}
 use Rattle.judging.proofs.fault_of.Goals as goal
 
 pub returns-then-c : goal.returns-then-c

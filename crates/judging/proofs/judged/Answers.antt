@@ -6,7 +6,6 @@ use Rattle.judging.specs.Code.{ReadyIs}
 use Rattle.judging.proofs.Answers.{file_refused, file_none, file_some}
 use Rattle.packets.proofs.Meeting.{met, gone}
 use mathlib.Core.Path.{sym, subst, ◌∙◌}
-use borrow.Author.Rules.{rules}
 use Rattle.judging.proofs.judged.Goals as goal
 
 pub checked-requires : goal.checked-requires

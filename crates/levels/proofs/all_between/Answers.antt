@@ -1,17 +1,11 @@
 -- `levels::all_between` meets its contract: as long as the flag is true, every value so far lies between. Assumes nothing.
-use mathlib.Core.Path.{◌≡◌, sym, ◌∙◌}
-use mathlib.Core.Bool.{true}
-use Prim.Native.Nat.{◌≤◌, ◌-◌}
+use mathlib.Core.Path.{sym, ◌∙◌}
 use lib.IntN.{pos}
-use lib.ListN.{length, get_or}
+use lib.ListN.{get_or}
 use mir.Syntax.{w32}
-use mir.Val.{to_z}
 use mir.Facts.{to_z-of_z}
-use Rattle.laws.specs.First.{first_fail}
-use Rattle.laws.specs.declared.Found.TheVariants.{Nothing}
 use Rattle.laws.proofs.Integers.{back}
 use Rattle.laws.proofs.First.{first_start, first_end}
-use Rattle.levels.specs.Level.{between}
 use Rattle.levels.proofs.Ranges.{between_turn}
 use borrow.Author.Rules.{rules}
 use Rattle.levels.proofs.all_between.Goals as goal

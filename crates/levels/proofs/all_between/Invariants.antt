@@ -1,19 +1,11 @@
 -- What the loops of `levels::all_between` keep, and what goes down.
-use mathlib.Core.Path.{◌≡◌, sym, ◌∙◌}
+use mathlib.Core.Path.{◌≡◌}
 use mathlib.Core.Bool.{true}
 use Prim.Native.Nat.{◌≤◌, ◌-◌}
-use lib.IntN.{pos}
-use lib.ListN.{length, get_or}
-use mir.Syntax.{w32}
-use mir.Val.{to_z}
-use mir.Facts.{to_z-of_z}
+use lib.ListN.{length}
 use Rattle.laws.specs.First.{first_fail}
 use Rattle.laws.specs.declared.Found.TheVariants.{Nothing}
-use Rattle.laws.proofs.Integers.{back}
-use Rattle.laws.proofs.First.{first_start, first_end}
 use Rattle.levels.specs.Level.{between}
-use Rattle.levels.proofs.Ranges.{between_turn}
-use borrow.Author.Rules.{rules}
 use Rattle.levels.proofs.all_between.Given as goal
 
 abbrev pub invariant-loop-i : goal.invariant-loop-i

@@ -1,10 +1,8 @@
 -- `levels::first_outside` meets its contract: what lies in the range of AC values lies in every range. Assumes nothing.
-use mathlib.Core.Path.{sym, ap, ◌∙◌}
-use lib.IntN.{pos}
+use mathlib.Core.Path.{sym}
 use mir.Syntax.{w32}
 use Rattle.laws.proofs.Integers.{back}
 use Rattle.levels.proofs.Ranges.{between_inside}
-use borrow.Author.Rules.{rules}
 use Rattle.levels.proofs.first_outside.Goals as goal
 
 pub returns-then-all_between : goal.returns-then-all_between

@@ -8,7 +8,6 @@ use mir.Val.{to_z, of_z}
 use mir.Facts.{to_z-of_z}
 use Rattle.laws.proofs.Integers.{back}
 use Rattle.levels.proofs.Ranges.{too_high, dc_test, ac_test}
-use borrow.Author.Rules.{rules}
 use Rattle.levels.proofs.in_level.Goals as goal
 
 pub returns-then-above-value : goal.returns-then-above-value

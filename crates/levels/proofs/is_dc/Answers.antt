@@ -1,6 +1,5 @@
 -- `levels::is_dc` meets its contract. Assumes nothing.
 use Rattle.levels.specs.Level.{is_dc}
-use borrow.Author.Rules.{rules}
 use Rattle.levels.proofs.is_dc.Goals as goal
 
 pub returns-in-Dc : goal.returns-in-Dc

@@ -1,12 +1,8 @@
 -- `levels::search_outside` meets its contract: before index i every value is inside. Assumes nothing.
 use mathlib.Core.Path.{◌≡◌, sym, ◌∙◌}
-use borrow.Author.Tests.{not-true, not-false}
-use Prim.Native.Nat.{◌≤◌, ◌-◌}
 use lib.IntN.{pos}
-use lib.ListN.{length, get_or}
+use lib.ListN.{get_or}
 use mir.Syntax.{w32}
-use Rattle.laws.specs.First.{first_fail}
-use Rattle.laws.specs.declared.Found.TheVariants.{Nothing}
 use Rattle.laws.proofs.Integers.{back}
 use Rattle.laws.proofs.First.{first_start, first_more, first_found, first_end}
 use Rattle.levels.specs.Level.{first_outside, inside}

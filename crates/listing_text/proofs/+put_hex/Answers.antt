@@ -1,5 +1,4 @@
 -- `listing_text::put_hex` meets its contract: digits fall from call to call.
-use native.Mathlib.Omega.{arith}
 use Rattle.listing_text.proofs.Writes.{wrote_then, wrote_none, hex_more, hex_none}
 use Rattle.listing_text.proofs.+put_hex.Goals as goal
 

@@ -1,7 +1,6 @@
 -- `listing_text::glyph` meets its contract.
 use borrow.Author.Tests.{lt-ltb, le-ltb}
 use Rattle.box_rules.specs.Text.{glyph}
-use borrow.Author.Rules.{rules}
 use Rattle.listing_text.proofs.glyph.Goals as goal
 
 pub returns-then-d-lt10 : goal.returns-then-d-lt10

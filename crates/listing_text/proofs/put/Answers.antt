@@ -1,6 +1,5 @@
 -- `listing_text::put` meets its contract.
 use Rattle.listing_text.proofs.Writes.{wrote_byte, wrote_past}
-use borrow.Author.Rules.{rules}
 use Rattle.listing_text.proofs.put.Goals as goal
 
 pub returns-then-at-out : goal.returns-then-at-out

@@ -1,8 +1,7 @@
 -- `listing_text::put_answer` meets its contract.
 use native.Mathlib.Omega.{arith}
-use Rattle.listing_text.proofs.Writes.{wrote_then, wrote_length}
+use Rattle.listing_text.proofs.Writes.{wrote_then}
 use Rattle.box_rules.specs.Text.{answer}
-use borrow.Author.Rules.{rules}
 use Rattle.listing_text.proofs.put_answer.Goals as goal
 
 pub returns : goal.returns

@@ -1,8 +1,7 @@
 -- `listing_text::put_line` meets its contract.
 use native.Mathlib.Omega.{arith}
-use Rattle.listing_text.proofs.Writes.{wrote_then, wrote_length}
+use Rattle.listing_text.proofs.Writes.{wrote_then}
 use Rattle.box_rules.specs.Text.{line}
-use borrow.Author.Rules.{rules}
 use Rattle.listing_text.proofs.put_line.Goals as goal
 
 pub returns : goal.returns

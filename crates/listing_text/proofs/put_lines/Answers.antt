@@ -1,14 +1,8 @@
 -- `listing_text::put_lines` meets its contract: what is left to write here is the whole at the start.
 use Rattle.box_rules.proofs.Walking.{forward_skip, forward_meet}
-use Rattle.box_rules.specs.Walk.{steps_from}
-use Rattle.box_rules.specs.Packets.{packets_in}
-use Rattle.box_rules.specs.Text.{lines}
-use Rattle.listing_text.proofs.Writes.{Going, going_start, going_more, going_same, going_done, lines_end, lines_broken, lines_skip, lines_meet}
-use lib.ListN.{length}
-use Prim.Native.Nat.{◌+◌, ◌*◌, ◌-◌, ◌≤◌}
+use Rattle.listing_text.proofs.Writes.{going_start, going_more, going_same, going_done, lines_end, lines_broken, lines_skip, lines_meet}
 use mathlib.Core.Path.{sym, ◌∙◌}
 use native.Mathlib.Omega.{arith}
-use borrow.Author.Rules.{rules}
 use Rattle.listing_text.proofs.put_lines.Goals as goal
 
 pub loop-next-init : goal.loop-next-init

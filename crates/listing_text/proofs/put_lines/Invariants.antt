@@ -1,14 +1,10 @@
 -- What the loops of `listing_text::put_lines` keep, and what goes down.
-use Rattle.box_rules.proofs.Walking.{forward_skip, forward_meet}
 use Rattle.box_rules.specs.Walk.{steps_from}
 use Rattle.box_rules.specs.Packets.{packets_in}
 use Rattle.box_rules.specs.Text.{lines}
-use Rattle.listing_text.proofs.Writes.{Going, going_start, going_more, going_same, going_done, lines_end, lines_broken, lines_skip, lines_meet}
+use Rattle.listing_text.proofs.Writes.{Going}
 use lib.ListN.{length}
 use Prim.Native.Nat.{◌+◌, ◌*◌, ◌-◌, ◌≤◌}
-use mathlib.Core.Path.{sym, ◌∙◌}
-use native.Mathlib.Omega.{arith}
-use borrow.Author.Rules.{rules}
 use Rattle.listing_text.proofs.put_lines.Given as goal
 
 abbrev pub invariant-loop-next : goal.invariant-loop-next

@@ -2,7 +2,6 @@
 use Rattle.box_rules.specs.Text.{header}
 use Rattle.listing_text.proofs.Writes.{wrote_then, listing_long, listing_refused, listing_good}
 use mathlib.Core.Path.{sym, ◌∙◌}
-use borrow.Author.Rules.{rules}
 use Rattle.listing_text.proofs.put_listing.Goals as goal
 
 pub returns-then-file-gt65536 : goal.returns-then-file-gt65536

@@ -1,7 +1,6 @@
 -- `listing_text::put_number` meets its contract.
 use native.Mathlib.Omega.{arith}
 use Rattle.listing_text.proofs.Writes.{dec_length}
-use borrow.Author.Rules.{rules}
 use Rattle.listing_text.proofs.put_number.Goals as goal
 
 pub put_dec-requires : goal.put_dec-requires

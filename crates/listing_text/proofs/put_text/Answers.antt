@@ -1,12 +1,10 @@
 -- `listing_text::put_text` meets its contract.
 use mathlib.Core.List.{◌++◌, [], ◌∷◌}
-use lib.ListN.{get_or, length, take}
-use borrow.Author.Rules.{rules}
+use lib.ListN.{get_or, take}
 use native.Mathlib.Omega.{arith}
 use mathlib.Core.Path.{◌≡◌}
-use Rattle.listing_text.proofs.Writes.{wrote_then, wrote_none, wrote_length}
-use Rattle.listing_text.specs.Code.{Wrote}
-use Prim.Native.Nat.{◌+◌, ◌-◌, ◌≤◌}
+use Rattle.listing_text.proofs.Writes.{wrote_then, wrote_none}
+use Prim.Native.Nat.{◌+◌}
 use lib.Seq.{take-suc, take_all}
 use native.Mathlib.Numerals.{add-one}
 use Rattle.listing_text.proofs.put_text.Goals as goal

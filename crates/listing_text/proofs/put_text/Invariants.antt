@@ -1,14 +1,8 @@
 -- What the loops of `listing_text::put_text` keep, and what goes down.
-use mathlib.Core.List.{◌++◌, [], ◌∷◌}
-use lib.ListN.{get_or, length, take}
-use borrow.Author.Rules.{rules}
-use native.Mathlib.Omega.{arith}
+use lib.ListN.{length, take}
 use mathlib.Core.Path.{◌≡◌}
-use Rattle.listing_text.proofs.Writes.{wrote_then, wrote_none, wrote_length}
 use Rattle.listing_text.specs.Code.{Wrote}
 use Prim.Native.Nat.{◌+◌, ◌-◌, ◌≤◌}
-use lib.Seq.{take-suc, take_all}
-use native.Mathlib.Numerals.{add-one}
 use Rattle.listing_text.proofs.put_text.Given as goal
 
 abbrev pub invariant-loop-i : goal.invariant-loop-i

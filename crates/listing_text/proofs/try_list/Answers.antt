@@ -3,7 +3,6 @@ use Rattle.answers.specs.declared.Outcome.TheVariants.{Given}
 use Rattle.answers.proofs.Laws.{tried_refused, tried_given}
 use Rattle.listing_text.proofs.Writes.{listed_short, listed_fits}
 use mathlib.Core.Path.{ap}
-use borrow.Author.Rules.{rules}
 use Rattle.listing_text.proofs.try_list.Goals as goal
 
 pub returns-then-text-end : goal.returns-then-text-end

@@ -1,13 +1,8 @@
 -- What the loops of `numbers::count_between` keep, and what goes down.
-use Rattle.packets.proofs.Meeting.{met, gone}
-use Rattle.numbers.proofs.Chosen.{between_turn, between_end}
-use Rattle.numbers.proofs.Meeting.{numbers_met, numbers_gone}
-use Rattle.box_rules.specs.Numbers.{numbers_from, within, between}
+use Rattle.box_rules.specs.Numbers.{numbers_from, between}
 use lib.ListN.{length}
 use Prim.Native.Nat.{◌+◌, ◌-◌, ◌≤◌}
 use mathlib.Core.Path.{◌≡◌}
-use native.Mathlib.Omega.{arith}
-use borrow.Author.Rules.{rules}
 use Rattle.numbers.proofs.count_between.Given as goal
 
 abbrev pub invariant-loop-head : goal.invariant-loop-head

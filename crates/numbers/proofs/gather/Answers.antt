@@ -1,13 +1,9 @@
 -- `numbers::gather` meets its contract: what is in hand and what is still to come make the window.
 use Rattle.packets.proofs.Meeting.{met, gone}
-use Rattle.numbers.proofs.Chosen.{Gathering, gather_start, gather_room, gather_here, gather_other, gather_end}
+use Rattle.numbers.proofs.Chosen.{gather_start, gather_room, gather_here, gather_other, gather_end}
 use Rattle.numbers.proofs.Meeting.{numbers_met, numbers_gone}
-use Rattle.box_rules.specs.Numbers.{numbers_from, within}
-use lib.ListN.{length}
-use Prim.Native.Nat.{◌-◌}
 use mathlib.Core.Path.{sym, ◌∙◌}
 use native.Mathlib.Omega.{arith}
-use borrow.Author.Rules.{rules}
 use Rattle.numbers.proofs.gather.Goals as goal
 
 pub loop-head-init : goal.loop-head-init

@@ -1,13 +1,8 @@
 -- What the loops of `numbers::gather` keep, and what goes down.
-use Rattle.packets.proofs.Meeting.{met, gone}
-use Rattle.numbers.proofs.Chosen.{Gathering, gather_start, gather_room, gather_here, gather_other, gather_end}
-use Rattle.numbers.proofs.Meeting.{numbers_met, numbers_gone}
-use Rattle.box_rules.specs.Numbers.{numbers_from, within}
+use Rattle.numbers.proofs.Chosen.{Gathering}
+use Rattle.box_rules.specs.Numbers.{numbers_from}
 use lib.ListN.{length}
 use Prim.Native.Nat.{◌-◌}
-use mathlib.Core.Path.{sym, ◌∙◌}
-use native.Mathlib.Omega.{arith}
-use borrow.Author.Rules.{rules}
 use Rattle.numbers.proofs.gather.Given as goal
 
 abbrev pub invariant-loop-head : goal.invariant-loop-head

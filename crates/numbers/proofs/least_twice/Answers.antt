@@ -1,10 +1,9 @@
 -- `numbers::least_twice` meets its contract.
 use Rattle.numbers.proofs.Chosen.{drop_next}
 use Rattle.box_rules.proofs.Counts.{twice_turn, twice_end}
-use Rattle.box_rules.specs.Numbers.{least, first_twice}
-use lib.ListN.{length, drop, drop_of_length-le}
-use Prim.Native.Nat.{◌-◌, ◌≤◌}
-use mathlib.Core.Path.{◌≡◌, refl}
+use Rattle.box_rules.specs.Numbers.{least}
+use lib.ListN.{drop_of_length-le}
+use mathlib.Core.Path.{refl}
 use native.Mathlib.Omega.{arith}
 use borrow.Author.Rules.{rules}
 use Rattle.numbers.proofs.least_twice.Goals as goal

@@ -1,12 +1,8 @@
 -- What the loops of `numbers::least_twice` keep, and what goes down.
-use Rattle.numbers.proofs.Chosen.{drop_next}
-use Rattle.box_rules.proofs.Counts.{twice_turn, twice_end}
 use Rattle.box_rules.specs.Numbers.{least, first_twice}
-use lib.ListN.{length, drop, drop_of_length-le}
+use lib.ListN.{length, drop}
 use Prim.Native.Nat.{◌-◌, ◌≤◌}
-use mathlib.Core.Path.{◌≡◌, refl}
-use native.Mathlib.Omega.{arith}
-use borrow.Author.Rules.{rules}
+use mathlib.Core.Path.{◌≡◌}
 use Rattle.numbers.proofs.least_twice.Given as goal
 
 -- `numbers::least_twice` meets its contract: the least of what was found and what is left is the least of all.

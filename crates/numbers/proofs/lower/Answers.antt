@@ -5,7 +5,6 @@ use Rattle.box_rules.specs.Numbers.{least}
 use mathlib.Core.Path.{ap}
 use native.Mathlib.Omega.{arith}
 use borrow.Author.Tests.{eq-eqb, ne_eqb}
-use borrow.Author.Rules.{rules}
 use Rattle.numbers.proofs.lower.Goals as goal
 
 pub returns-then-again-eq0 : goal.returns-then-again-eq0

@@ -2,12 +2,7 @@
 use Rattle.packets.proofs.Meeting.{met, gone}
 use Rattle.numbers.proofs.Chosen.{past_turn, past_end}
 use Rattle.numbers.proofs.Meeting.{numbers_met, numbers_gone}
-use Rattle.box_rules.specs.Numbers.{numbers_from, count}
-use lib.ListN.{length}
-use Prim.Native.Nat.{ℕ, ◌-◌, ◌≤◌}
-use mathlib.Core.Path.{◌≡◌}
 use native.Mathlib.Omega.{arith}
-use borrow.Author.Rules.{rules}
 use Rattle.numbers.proofs.past_all.Goals as goal
 
 pub returns-in-Gone : goal.returns-in-Gone

@@ -1,13 +1,8 @@
 -- What the loops of `numbers::past_all` keep, and what goes down.
-use Rattle.packets.proofs.Meeting.{met, gone}
-use Rattle.numbers.proofs.Chosen.{past_turn, past_end}
-use Rattle.numbers.proofs.Meeting.{numbers_met, numbers_gone}
 use Rattle.box_rules.specs.Numbers.{numbers_from, count}
 use lib.ListN.{length}
 use Prim.Native.Nat.{ℕ, ◌-◌, ◌≤◌}
 use mathlib.Core.Path.{◌≡◌}
-use native.Mathlib.Omega.{arith}
-use borrow.Author.Rules.{rules}
 use Rattle.numbers.proofs.past_all.Given as goal
 
 abbrev pub invariant-loop-head : goal.invariant-loop-head

@@ -1,10 +1,7 @@
 -- `numbers::stands_from` meets its contract: what was counted and what is left make the whole count.
 use Rattle.numbers.proofs.Chosen.{drop_next}
 use Rattle.box_rules.proofs.Counts.{count_turn, count_end}
-use Rattle.box_rules.specs.Numbers.{count}
-use lib.ListN.{length, drop, drop_of_length-le}
-use Prim.Native.Nat.{◌+◌, ◌-◌, ◌≤◌}
-use mathlib.Core.Path.{◌≡◌}
+use lib.ListN.{drop_of_length-le}
 use native.Mathlib.Omega.{arith}
 use borrow.Author.Rules.{rules}
 use Rattle.numbers.proofs.stands_from.Goals as goal

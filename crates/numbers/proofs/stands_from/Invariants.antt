@@ -1,12 +1,8 @@
 -- What the loops of `numbers::stands_from` keep, and what goes down.
-use Rattle.numbers.proofs.Chosen.{drop_next}
-use Rattle.box_rules.proofs.Counts.{count_turn, count_end}
 use Rattle.box_rules.specs.Numbers.{count}
-use lib.ListN.{length, drop, drop_of_length-le}
+use lib.ListN.{length, drop}
 use Prim.Native.Nat.{◌+◌, ◌-◌, ◌≤◌}
 use mathlib.Core.Path.{◌≡◌}
-use native.Mathlib.Omega.{arith}
-use borrow.Author.Rules.{rules}
 use Rattle.numbers.proofs.stands_from.Given as goal
 
 abbrev pub invariant-loop-i : goal.invariant-loop-i

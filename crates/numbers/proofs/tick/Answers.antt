@@ -1,7 +1,6 @@
 -- `numbers::tick` meets its contract.
 use native.Mathlib.Omega.{arith}
 use mathlib.Core.Path.{refl}
-use borrow.Author.Rules.{rules}
 use Rattle.numbers.proofs.tick.Goals as goal
 
 pub returns-then-flag : goal.returns-then-flag

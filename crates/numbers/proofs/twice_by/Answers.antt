@@ -1,9 +1,6 @@
 -- `numbers::twice_by` meets its contract: below `lo` no number stands twice.
 use Rattle.numbers.proofs.Chosen.{windows_next, windows_found, windows_end}
-use Rattle.box_rules.specs.Numbers.{numbers_from, count}
-use lib.ListN.{length}
-use Prim.Native.Nat.{ℕ, ◌-◌, ◌≤◌, ◌<◌}
-use mathlib.Core.Path.{◌≡◌, refl}
+use mathlib.Core.Path.{refl}
 use native.Mathlib.Omega.{arith}
 use borrow.Author.Rules.{rules}
 use Rattle.numbers.proofs.twice_by.Goals as goal

@@ -1,11 +1,8 @@
 -- What the loops of `numbers::twice_by` keep, and what goes down.
-use Rattle.numbers.proofs.Chosen.{windows_next, windows_found, windows_end}
 use Rattle.box_rules.specs.Numbers.{numbers_from, count}
 use lib.ListN.{length}
 use Prim.Native.Nat.{ℕ, ◌-◌, ◌≤◌, ◌<◌}
-use mathlib.Core.Path.{◌≡◌, refl}
-use native.Mathlib.Omega.{arith}
-use borrow.Author.Rules.{rules}
+use mathlib.Core.Path.{◌≡◌}
 use Rattle.numbers.proofs.twice_by.Given as goal
 
 abbrev pub invariant-loop-lo : goal.invariant-loop-lo

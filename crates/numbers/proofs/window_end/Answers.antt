@@ -1,9 +1,6 @@
 -- `numbers::window_end` meets its contract: up to `good` the window fits, or is one number wide.
-use Rattle.box_rules.specs.Numbers.{numbers_from, between}
-use Prim.Native.Nat.{◌+◌, ◌-◌, ◌≤◌, ◌<◌}
-use mathlib.Core.Path.{◌≡◌, refl}
+use mathlib.Core.Path.{refl}
 use native.Mathlib.Omega.{arith}
-use borrow.Author.Rules.{rules}
 use Rattle.numbers.proofs.window_end.Goals as goal
 
 pub loop-good-init : goal.loop-good-init

@@ -1,9 +1,7 @@
 -- What the loops of `numbers::window_end` keep, and what goes down.
 use Rattle.box_rules.specs.Numbers.{numbers_from, between}
 use Prim.Native.Nat.{◌+◌, ◌-◌, ◌≤◌, ◌<◌}
-use mathlib.Core.Path.{◌≡◌, refl}
-use native.Mathlib.Omega.{arith}
-use borrow.Author.Rules.{rules}
+use mathlib.Core.Path.{◌≡◌}
 use Rattle.numbers.proofs.window_end.Given as goal
 
 abbrev pub invariant-loop-good : goal.invariant-loop-good

@@ -1,7 +1,6 @@
 -- `packets::begins` meets its contract.
 use borrow.Author.Tests.{lt-ltb, le-ltb, eq-eqb, ne_eqb}
 use Rattle.box_rules.specs.Walk.{begins}
-use borrow.Author.Rules.{rules}
 use Rattle.packets.proofs.begins.Goals as goal
 
 pub returns-then-file-lt2 : goal.returns-then-file-lt2

@@ -2,7 +2,6 @@
 use mathlib.Core.Path.{sym}
 use borrow.Author.Tests.{eqb-true}
 use Rattle.laws.proofs.Choices.{true_false}
-use borrow.Author.Rules.{rules}
 use Rattle.packets.proofs.marked_here.Goals as goal
 
 pub returns-then-file-at : goal.returns-then-file-at

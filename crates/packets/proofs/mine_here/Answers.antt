@@ -3,7 +3,6 @@ use mathlib.Core.Path.{ap, sym, ◌∙◌}
 use native.Mathlib.Omega.{arith}
 use Rattle.box_rules.specs.Packets.{is_mine}
 use Rattle.packets.proofs.Quick.{mine_packed}
-use borrow.Author.Rules.{rules}
 use Rattle.packets.proofs.mine_here.Goals as goal
 
 pub returns-then-len-eq0 : goal.returns-then-len-eq0

@@ -1,13 +1,8 @@
 -- `packets::next_mine` meets its contract: the packets from here on are those from the start on.
 use Rattle.box_rules.proofs.Walking.{forward_skip, forward_meet, ending_skip, ending_meet}
 use Rattle.packets.proofs.Meeting.{mine_end, mine_broken, mine_skip, mine_other, mine_met}
-use Rattle.box_rules.specs.Walk.{steps_from, ending}
-use Rattle.box_rules.specs.Packets.{mine_from}
-use lib.ListN.{length}
-use Prim.Native.Nat.{◌-◌, ◌≤◌}
-use mathlib.Core.Path.{◌≡◌, sym, ◌∙◌}
+use mathlib.Core.Path.{sym, ◌∙◌}
 use native.Mathlib.Omega.{arith}
-use borrow.Author.Rules.{rules}
 use Rattle.packets.proofs.next_mine.Goals as goal
 
 pub returns-in-End : goal.returns-in-End

@@ -1,13 +1,9 @@
 -- What the loops of `packets::next_mine` keep, and what goes down.
-use Rattle.box_rules.proofs.Walking.{forward_skip, forward_meet, ending_skip, ending_meet}
-use Rattle.packets.proofs.Meeting.{mine_end, mine_broken, mine_skip, mine_other, mine_met}
 use Rattle.box_rules.specs.Walk.{steps_from, ending}
 use Rattle.box_rules.specs.Packets.{mine_from}
 use lib.ListN.{length}
 use Prim.Native.Nat.{◌-◌, ◌≤◌}
-use mathlib.Core.Path.{◌≡◌, sym, ◌∙◌}
-use native.Mathlib.Omega.{arith}
-use borrow.Author.Rules.{rules}
+use mathlib.Core.Path.{◌≡◌}
 use Rattle.packets.proofs.next_mine.Given as goal
 
 abbrev pub invariant-loop-next : goal.invariant-loop-next

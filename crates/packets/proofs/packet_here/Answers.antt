@@ -1,9 +1,7 @@
 -- `packets::packet_here` meets its contract: what was tested is what the law of the quick look asks.
 use mathlib.Core.Path.{sym}
 use native.Mathlib.Omega.{arith}
-use borrow.Author.Tests.{not-false}
 use Rattle.packets.proofs.Quick.{here}
-use borrow.Author.Rules.{rules}
 use Rattle.packets.proofs.packet_here.Goals as goal
 
 pub returns-then-n-lt20 : goal.returns-then-n-lt20

@@ -1,7 +1,6 @@
 -- `packets::step_at` meets its contract: where the quick look finds a packet, it is the step.
 use mathlib.Core.Path.{sym}
 use native.Mathlib.Omega.{arith}
-use borrow.Author.Rules.{rules}
 use Rattle.packets.proofs.step_at.Goals as goal
 
 pub overflow_add-at : goal.overflow_add-at

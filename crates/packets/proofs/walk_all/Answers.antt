@@ -1,6 +1,5 @@
 -- `packets::walk_all` meets its contract.
 use Rattle.box_rules.specs.Walk.{walk}
-use borrow.Author.Rules.{rules}
 use Rattle.packets.proofs.walk_all.Goals as goal
 
 pub returns : goal.returns

@@ -1,11 +1,7 @@
 -- `packets::walk_end` meets its contract: the walk from here ends as the walk from the start does.
 use Rattle.box_rules.proofs.Walking.{forward_skip, forward_meet, ending_end, ending_broken, ending_skip, ending_meet}
-use Rattle.box_rules.specs.Walk.{steps_from, ending}
-use lib.ListN.{length}
-use Prim.Native.Nat.{◌-◌}
-use mathlib.Core.Path.{◌≡◌, refl, sym, ◌∙◌}
+use mathlib.Core.Path.{refl, sym, ◌∙◌}
 use native.Mathlib.Omega.{arith}
-use borrow.Author.Rules.{rules}
 use Rattle.packets.proofs.walk_end.Goals as goal
 
 pub loop-r-init : goal.loop-r-init

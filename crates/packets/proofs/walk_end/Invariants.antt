@@ -1,11 +1,8 @@
 -- What the loops of `packets::walk_end` keep, and what goes down.
-use Rattle.box_rules.proofs.Walking.{forward_skip, forward_meet, ending_end, ending_broken, ending_skip, ending_meet}
 use Rattle.box_rules.specs.Walk.{steps_from, ending}
 use lib.ListN.{length}
 use Prim.Native.Nat.{◌-◌}
-use mathlib.Core.Path.{◌≡◌, refl, sym, ◌∙◌}
-use native.Mathlib.Omega.{arith}
-use borrow.Author.Rules.{rules}
+use mathlib.Core.Path.{◌≡◌}
 use Rattle.packets.proofs.walk_end.Given as goal
 
 abbrev pub invariant-loop-r : goal.invariant-loop-r

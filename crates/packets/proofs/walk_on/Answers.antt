@@ -2,7 +2,6 @@
 use Rattle.box_rules.proofs.Walking.{on_begun, on_not}
 use Rattle.box_rules.specs.Walk.{ending}
 use mathlib.Core.Path.{sym, ap, ◌∙◌}
-use borrow.Author.Rules.{rules}
 use Rattle.packets.proofs.walk_on.Goals as goal
 
 pub returns-then-begins : goal.returns-then-begins

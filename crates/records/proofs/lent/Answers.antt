@@ -1,5 +1,4 @@
 -- `records::lent` meets its contract. Assumes nothing.
-use borrow.Author.Rules.{rules}
 use Rattle.test_rules.proofs.Fields.{lent_is}
 use Rattle.records.proofs.lent.Goals as goal
 

@@ -5,7 +5,6 @@ use mir.Syntax.{w32, w64}
 use mir.Val.{SFits}
 use mir.Facts.{to_z-of_z, to_z_pos}
 use Rattle.laws.proofs.Integers.{to64, less_half}
-use borrow.Author.Rules.{rules}
 use Rattle.records.proofs.lowered.Goals as goal
 
 pub overflow_sub-v : goal.overflow_sub-v

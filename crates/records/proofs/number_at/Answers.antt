@@ -1,5 +1,4 @@
 -- `records::number_at` meets its contract. Assumes nothing.
-use borrow.Author.Rules.{rules}
 use native.Mathlib.Omega.{arith}
 use Rattle.test_rules.proofs.Fields.{number_is}
 use Rattle.records.proofs.number_at.Goals as goal

@@ -1,5 +1,4 @@
 -- `records::pair_at` meets its contract. Assumes nothing.
-use borrow.Author.Rules.{rules}
 use native.Mathlib.Omega.{arith}
 use Rattle.test_rules.proofs.Fields.{pair_is}
 use Rattle.records.proofs.pair_at.Goals as goal

@@ -3,7 +3,6 @@ use mathlib.Core.Path.{◌≡◌, sym}
 use Prim.Native.Nat.{◌+◌, ◌-◌}
 use native.Mathlib.Omega.{arith}
 use Rattle.test_rules.proofs.Fields.{part_none, part_some}
-use borrow.Author.Rules.{rules}
 use Rattle.records.proofs.part.Goals as goal
 
 pub returns-then-bytes-at : goal.returns-then-bytes-at

@@ -2,7 +2,6 @@
 use mathlib.Core.Path.{sym}
 use native.Mathlib.Omega.{arith}
 use Rattle.test_rules.proofs.Fields.{on_inside, on_end}
-use borrow.Author.Rules.{rules}
 use Rattle.records.proofs.past.Goals as goal
 
 pub returns-then-n-length : goal.returns-then-n-length

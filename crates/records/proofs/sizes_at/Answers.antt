@@ -1,12 +1,11 @@
 -- `records::sizes_at` meets its contract: before index i the list is read. Assumes nothing.
 use mathlib.Core.Path.{refl}
-use Prim.Native.Nat.{◌*◌, ◌-◌}
+use Prim.Native.Nat.{◌*◌}
 use native.Mathlib.Omega.{arith}
 use lib.ListN.{length}
 use Rattle.test_rules.specs.Fields.{pair_at, size_at}
-use Rattle.records.proofs.Lists.{Reading, reading_start, reading_long, reading_turn, reading_end}
+use Rattle.records.proofs.Lists.{reading_start, reading_long, reading_turn, reading_end}
 use Rattle.test_rules.proofs.Fields.{on_later, pair_behind}
-use borrow.Author.Rules.{rules}
 use Rattle.records.proofs.sizes_at.Goals as goal
 
 pub loop-i-init : goal.loop-i-init

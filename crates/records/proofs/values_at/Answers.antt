@@ -1,14 +1,13 @@
 -- `records::values_at` meets its contract: before index i the list is read. Assumes nothing.
 use mathlib.Core.Path.{refl, ap, ◌∙◌}
-use Prim.Native.Nat.{◌*◌, ◌-◌}
+use Prim.Native.Nat.{◌*◌}
 use native.Mathlib.Omega.{arith}
 use lib.ListN.{length}
 use mir.Syntax.{w32}
 use Rattle.laws.proofs.Integers.{back}
 use Rattle.test_rules.specs.Fields.{lowered, number_at, value_at}
-use Rattle.records.proofs.Lists.{Reading, reading_start, reading_long, reading_turn, reading_end}
+use Rattle.records.proofs.Lists.{reading_start, reading_long, reading_turn, reading_end}
 use Rattle.test_rules.proofs.Fields.{on_later, number_behind}
-use borrow.Author.Rules.{rules}
 use Rattle.records.proofs.values_at.Goals as goal
 
 pub loop-i-init : goal.loop-i-init

@@ -1,6 +1,6 @@
 -- `scans::alike` meets its contract.
 use Rattle.box_rules.specs.Box.{alike}
-use borrow.Author.Tests.{eq-eqb, ne_eqb, not-true, not-false}
+use borrow.Author.Tests.{eq-eqb, ne_eqb}
 use Rattle.scans.proofs.alike.Goals as goal
 
 pub returns-then-not-flag : goal.returns-then-not-flag

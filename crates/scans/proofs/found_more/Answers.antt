@@ -1,5 +1,4 @@
 -- `scans::found_more` meets its contract.
-use borrow.Author.Rules.{rules}
 use Rattle.scans.proofs.found_more.Goals as goal
 
 pub returns : goal.returns

@@ -1,10 +1,7 @@
 -- `scans::scan_all` meets its contract: what was met and what is left make the whole.
 use Rattle.packets.proofs.Meeting.{met, gone}
-use Rattle.scans.proofs.Passes.{Passing, pass_start, pass_turn, pass_end, pass_ending}
-use lib.ListN.{length}
-use Prim.Native.Nat.{◌-◌}
+use Rattle.scans.proofs.Passes.{pass_start, pass_turn, pass_end, pass_ending}
 use native.Mathlib.Omega.{arith}
-use borrow.Author.Rules.{rules}
 use Rattle.scans.proofs.scan_all.Goals as goal
 
 pub loop-head-init : goal.loop-head-init

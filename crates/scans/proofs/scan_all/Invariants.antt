@@ -1,10 +1,7 @@
 -- What the loops of `scans::scan_all` keep, and what goes down.
-use Rattle.packets.proofs.Meeting.{met, gone}
-use Rattle.scans.proofs.Passes.{Passing, pass_start, pass_turn, pass_end, pass_ending}
+use Rattle.scans.proofs.Passes.{Passing}
 use lib.ListN.{length}
 use Prim.Native.Nat.{◌-◌}
-use native.Mathlib.Omega.{arith}
-use borrow.Author.Rules.{rules}
 use Rattle.scans.proofs.scan_all.Given as goal
 
 abbrev pub invariant-loop-head : goal.invariant-loop-head

@@ -1,7 +1,6 @@
 -- `segments::full_step` meets its contract: each return goes by the tests that led there.
-use Rattle.box_rules.specs.Walk.{barred, marked_at, step_at}
+use Rattle.box_rules.specs.Walk.{marked_at, step_at}
 use borrow.Author.Tests.{le-leb, lt-leb, eq-eqb, ne_eqb}
-use borrow.Author.Rules.{rules}
 use Rattle.segments.proofs.full_step.Goals as goal
 
 pub returns-then-m-at : goal.returns-then-m-at

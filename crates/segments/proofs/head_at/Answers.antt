@@ -1,6 +1,5 @@
 -- `segments::head_at` meets its contract: field by field.
 use Rattle.box_rules.specs.Walk.{head_at}
-use borrow.Author.Rules.{rules}
 use Rattle.segments.proofs.head_at.Goals as goal
 
 pub returns : goal.returns

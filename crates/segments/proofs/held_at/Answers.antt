@@ -1,6 +1,5 @@
 -- `segments::held_at` meets its contract.
 use borrow.Author.Tests.{lt-ltb, le-ltb}
-use borrow.Author.Rules.{rules}
 use Rattle.segments.proofs.held_at.Goals as goal
 
 pub returns-then-head : goal.returns-then-head

@@ -1,6 +1,5 @@
 -- `segments::long_head_at` meets its contract: field by field.
 use Rattle.box_rules.specs.Walk.{long_head_at}
-use borrow.Author.Rules.{rules}
 use Rattle.segments.proofs.long_head_at.Goals as goal
 
 pub returns : goal.returns

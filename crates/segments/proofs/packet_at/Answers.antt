@@ -1,7 +1,6 @@
 -- `segments::packet_at` meets its contract: each return goes by the tests that led there.
 use Rattle.box_rules.specs.Walk.{packet_at}
 use borrow.Author.Tests.{lt-ltb, le-ltb, eq-eqb, ne_eqb}
-use borrow.Author.Rules.{rules}
 use Rattle.segments.proofs.packet_at.Goals as goal
 
 pub returns-then-len-lt18 : goal.returns-then-len-lt18

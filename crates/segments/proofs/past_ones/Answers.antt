@@ -1,9 +1,6 @@
 -- `segments::past_ones` meets its contract. The run from m on ends where the run from `at` on ends.
 use borrow.Author.Rules.{rules}
-use Prim.Native.Nat.{◌+◌, ◌-◌}
-use mathlib.Core.Path.{◌≡◌, sym, ◌∙◌}
-use lib.ListN.{length, drop}
-use Rattle.box_rules.specs.Walk.{ones}
+use mathlib.Core.Path.{sym, ◌∙◌}
 use Rattle.box_rules.proofs.Runs.{ones_on, ones_off, ones_end}
 use Rattle.segments.proofs.past_ones.Goals as goal
 

@@ -1,10 +1,8 @@
 -- What the loops of `segments::past_ones` keep, and what goes down.
-use borrow.Author.Rules.{rules}
 use Prim.Native.Nat.{◌+◌, ◌-◌}
-use mathlib.Core.Path.{◌≡◌, sym, ◌∙◌}
+use mathlib.Core.Path.{◌≡◌}
 use lib.ListN.{length, drop}
 use Rattle.box_rules.specs.Walk.{ones}
-use Rattle.box_rules.proofs.Runs.{ones_on, ones_off, ones_end}
 use Rattle.segments.proofs.past_ones.Given as goal
 
 abbrev pub invariant-loop-m : goal.invariant-loop-m

@@ -1,7 +1,6 @@
 -- `segments::sized_at` meets its contract: each return goes by the tests that led there.
-use Rattle.box_rules.specs.Walk.{be16, sized_at}
+use Rattle.box_rules.specs.Walk.{sized_at}
 use borrow.Author.Tests.{lt-ltb, le-ltb}
-use borrow.Author.Rules.{rules}
 use Rattle.segments.proofs.sized_at.Goals as goal
 
 pub returns-then-file-m : goal.returns-then-file-m

@@ -1,7 +1,6 @@
 -- `segments::tagged` meets its contract.
 use borrow.Author.Tests.{lt-ltb, le-ltb, eq-eqb, ne_eqb}
 use Rattle.box_rules.specs.Walk.{tagged}
-use borrow.Author.Rules.{rules}
 use Rattle.segments.proofs.tagged.Goals as goal
 
 pub returns-then-len-lt4 : goal.returns-then-len-lt4

@@ -1,7 +1,6 @@
 -- `segments::whole_at` meets its contract.
 use borrow.Author.Tests.{eq-eqb, ne_eqb}
-use Rattle.box_rules.specs.Walk.{tagged, whole_at}
-use borrow.Author.Rules.{rules}
+use Rattle.box_rules.specs.Walk.{whole_at}
 use Rattle.segments.proofs.whole_at.Goals as goal
 
 pub returns-then-file-m : goal.returns-then-file-m

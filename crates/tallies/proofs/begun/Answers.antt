@@ -1,6 +1,5 @@
 -- `tallies::begun` meets its contract. Assumes nothing.
 use Rattle.test_rules.specs.Runs.{begun}
-use borrow.Author.Rules.{rules}
 use Rattle.tallies.proofs.begun.Goals as goal
 
 pub returns : goal.returns

@@ -1,6 +1,5 @@
 -- `tallies::counted` meets its contract. Assumes nothing.
 use Rattle.test_rules.specs.Runs.{counted}
-use borrow.Author.Rules.{rules}
 use Rattle.tallies.proofs.counted.Goals as goal
 
 pub returns-then-good : goal.returns-then-good

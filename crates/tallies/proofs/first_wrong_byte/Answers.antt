@@ -1,11 +1,6 @@
 -- `tallies::first_wrong_byte` meets its contract: before index i every byte is the wanted one. Assumes nothing.
-use mathlib.Core.Path.{◌≡◌, sym}
+use mathlib.Core.Path.{sym}
 use borrow.Author.Tests.{eq-eqb, ne_eqb}
-use Prim.Native.Nat.{◌≤◌, ◌-◌}
-use lib.ListN.{length}
-use lib.Dec.{eqb}
-use Rattle.laws.specs.First.{first_fail}
-use Rattle.laws.specs.declared.Found.TheVariants.{Nothing}
 use Rattle.laws.proofs.First.{first_start, first_more, first_found, first_end}
 use Rattle.test_rules.specs.Wanted.{is_wanted}
 use borrow.Author.Rules.{rules}

@@ -1,14 +1,11 @@
 -- What the loops of `tallies::first_wrong_byte` keep, and what goes down.
-use mathlib.Core.Path.{◌≡◌, sym}
-use borrow.Author.Tests.{eq-eqb, ne_eqb}
+use mathlib.Core.Path.{◌≡◌}
 use Prim.Native.Nat.{◌≤◌, ◌-◌}
 use lib.ListN.{length}
 use lib.Dec.{eqb}
 use Rattle.laws.specs.First.{first_fail}
 use Rattle.laws.specs.declared.Found.TheVariants.{Nothing}
-use Rattle.laws.proofs.First.{first_start, first_more, first_found, first_end}
 use Rattle.test_rules.specs.Wanted.{is_wanted}
-use borrow.Author.Rules.{rules}
 use Rattle.tallies.proofs.first_wrong_byte.Given as goal
 
 abbrev pub invariant-loop-i : goal.invariant-loop-i

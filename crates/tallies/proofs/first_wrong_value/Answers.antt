@@ -1,13 +1,8 @@
 -- `tallies::first_wrong_value` meets its contract: before index i every value is the wanted one. Assumes nothing.
 use mathlib.Core.Path.{◌≡◌, sym, ◌∙◌}
-use borrow.Author.Tests.{not-true, not-false}
-use Prim.Native.Nat.{◌≤◌, ◌-◌}
 use lib.IntN.{pos}
-use lib.ListN.{length}
 use mir.Syntax.{w32}
 use Rattle.laws.proofs.Integers.{back}
-use Rattle.laws.specs.First.{first_fail}
-use Rattle.laws.specs.declared.Found.TheVariants.{Nothing}
 use Rattle.laws.proofs.First.{first_start, first_more, first_found, first_end}
 use Rattle.test_rules.specs.Wanted.{is_wanted, same_value}
 use borrow.Author.Rules.{rules}

@@ -2,7 +2,6 @@
 use mathlib.Core.Path.{sym, ◌∙◌}
 use Rattle.test_rules.specs.Runs.{moved}
 use Rattle.test_rules.proofs.Steps.{next_run_is}
-use borrow.Author.Rules.{rules}
 use Rattle.tallies.proofs.next_run.Goals as goal
 
 pub returns-then-goes_on : goal.returns-then-goes_on

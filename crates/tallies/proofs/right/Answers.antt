@@ -1,7 +1,6 @@
 -- `tallies::right` meets its contract. Assumes nothing.
 use borrow.Author.Tests.{eq-eqb, ne_eqb}
 use Rattle.test_rules.specs.Wanted.{right, nothing}
-use borrow.Author.Rules.{rules}
 use Rattle.tallies.proofs.right.Goals as goal
 
 pub returns-then-a-number : goal.returns-then-a-number
@@ -19,17 +18,17 @@ returns-then-a-second c = rw (eq-eqb _ _ c.if-a-number.false, eq-eqb _ _ c.if-a-
 pub returns-in-At : goal.returns-in-At
 unfolding right nothing
 returns-in-At c = rw (
-      eq-eqb _ _ c.if-a-number.false,
-      eq-eqb _ _ c.if-a-place.false,
-      eq-eqb _ _ c.if-a-second.false,
-      c.in-At.is,
-    )
+  eq-eqb _ _ c.if-a-number.false,
+  eq-eqb _ _ c.if-a-place.false,
+  eq-eqb _ _ c.if-a-second.false,
+  c.in-At.is,
+)
 
 pub returns-in-Nothing : goal.returns-in-Nothing
 unfolding right nothing
 returns-in-Nothing c = rw (
-      eq-eqb _ _ c.if-a-number.false,
-      eq-eqb _ _ c.if-a-place.false,
-      eq-eqb _ _ c.if-a-second.false,
-      c.in-Nothing.is,
-    )
+  eq-eqb _ _ c.if-a-number.false,
+  eq-eqb _ _ c.if-a-place.false,
+  eq-eqb _ _ c.if-a-second.false,
+  c.in-Nothing.is,
+)

@@ -1,7 +1,6 @@
 -- `tallies::wanted_byte` meets its contract. Assumes nothing.
 use borrow.Author.Tests.{eq-eqb, ne_eqb, lt-ltb, le-ltb}
 use Rattle.test_rules.specs.Wanted.{wanted}
-use borrow.Author.Rules.{rules}
 use Rattle.tallies.proofs.wanted_byte.Goals as goal
 
 pub returns-then-number-ne0 : goal.returns-then-number-ne0

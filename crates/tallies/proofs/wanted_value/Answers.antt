@@ -3,7 +3,6 @@ use borrow.Author.Tests.{eq-eqb, ne_eqb, lt-ltb, le-ltb}
 use mir.Syntax.{w32}
 use Rattle.laws.proofs.Integers.{back}
 use Rattle.test_rules.specs.Wanted.{wanted}
-use borrow.Author.Rules.{rules}
 use Rattle.tallies.proofs.wanted_value.Goals as goal
 
 pub returns-then-number-ne0 : goal.returns-then-number-ne0

@@ -1,8 +1,5 @@
 -- `windows::clear_places` meets its contract.
-use Rattle.answers.proofs.Laws.{Cleared, clear_start, clear_turn, clear_end}
-use lib.ListN.{length}
-use Prim.Native.Nat.{◌-◌}
-use borrow.Author.Rules.{rules}
+use Rattle.answers.proofs.Laws.{clear_start, clear_turn, clear_end}
 use Rattle.windows.proofs.clear_places.Goals as goal
 
 pub loop-i-init : goal.loop-i-init

@@ -1,8 +1,7 @@
 -- What the loops of `windows::clear_places` keep, and what goes down.
-use Rattle.answers.proofs.Laws.{Cleared, clear_start, clear_turn, clear_end}
+use Rattle.answers.proofs.Laws.{Cleared}
 use lib.ListN.{length}
 use Prim.Native.Nat.{◌-◌}
-use borrow.Author.Rules.{rules}
 use Rattle.windows.proofs.clear_places.Given as goal
 
 abbrev pub invariant-loop-i : goal.invariant-loop-i

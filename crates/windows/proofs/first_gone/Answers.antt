@@ -1,14 +1,9 @@
 -- `windows::first_gone` meets its contract: no place passed was 0.
 use Rattle.laws.proofs.First.{first_start, first_more, first_found, first_end}
-use Rattle.laws.specs.declared.Found.TheVariants.{Nothing}
-use Rattle.laws.specs.First.{first_fail}
-use lib.Dec.{ltb}
 use lib.ListN.{get_or}
 use borrow.Author.Tests.{lt-ltb}
-use mathlib.Core.Path.{◌≡◌, sym}
-use Prim.Native.Nat.{ℕ, ◌-◌, ◌≤◌}
+use mathlib.Core.Path.{sym}
 use native.Mathlib.Omega.{arith}
-use borrow.Author.Rules.{rules}
 use Rattle.windows.proofs.first_gone.Goals as goal
 
 pub loop-i-init : goal.loop-i-init

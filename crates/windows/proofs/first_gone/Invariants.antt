@@ -1,14 +1,10 @@
 -- What the loops of `windows::first_gone` keep, and what goes down.
-use Rattle.laws.proofs.First.{first_start, first_more, first_found, first_end}
 use Rattle.laws.specs.declared.Found.TheVariants.{Nothing}
 use Rattle.laws.specs.First.{first_fail}
 use lib.Dec.{ltb}
 use lib.ListN.{get_or}
-use borrow.Author.Tests.{lt-ltb}
-use mathlib.Core.Path.{◌≡◌, sym}
+use mathlib.Core.Path.{◌≡◌}
 use Prim.Native.Nat.{ℕ, ◌-◌, ◌≤◌}
-use native.Mathlib.Omega.{arith}
-use borrow.Author.Rules.{rules}
 use Rattle.windows.proofs.first_gone.Given as goal
 
 abbrev pub invariant-loop-i : goal.invariant-loop-i

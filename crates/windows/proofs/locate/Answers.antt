@@ -1,11 +1,8 @@
 -- `windows::locate` meets its contract: the places are right of the packets met so far.
 use Rattle.packets.proofs.Meeting.{met, gone}
-use Rattle.windows.proofs.Places.{Locating, locate_start, locate_turn, locate_end}
+use Rattle.windows.proofs.Places.{locate_start, locate_turn, locate_end}
 use lib.ListN.{length}
-use mathlib.Core.Path.{◌∙◌}
-use Prim.Native.Nat.{◌-◌}
 use native.Mathlib.Omega.{arith}
-use borrow.Author.Rules.{rules}
 use Rattle.windows.proofs.locate.Goals as goal
 
 pub loop-head-init : goal.loop-head-init

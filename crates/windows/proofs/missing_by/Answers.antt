@@ -1,10 +1,8 @@
 -- `windows::missing_by` meets its contract: none of the numbers passed is missing.
 use Rattle.box_rules.proofs.Counts.{missing_done}
 use Rattle.windows.proofs.Places.{window_missing, window_index, window_passed}
-use Rattle.box_rules.specs.Numbers.{numbers_from, missing_from}
-use lib.ListN.{length}
 use mathlib.Core.Path.{◌≡◌, refl, sym, ◌∙◌}
-use Prim.Native.Nat.{◌+◌, ◌-◌, ◌≤◌}
+use Prim.Native.Nat.{◌+◌, ◌-◌}
 use native.Mathlib.Omega.{arith}
 use borrow.Author.Rules.{rules}
 use Rattle.windows.proofs.missing_by.Goals as goal

@@ -1,12 +1,8 @@
 -- What the loops of `windows::missing_by` keep, and what goes down.
-use Rattle.box_rules.proofs.Counts.{missing_done}
-use Rattle.windows.proofs.Places.{window_missing, window_index, window_passed}
 use Rattle.box_rules.specs.Numbers.{numbers_from, missing_from}
 use lib.ListN.{length}
-use mathlib.Core.Path.{◌≡◌, refl, sym, ◌∙◌}
+use mathlib.Core.Path.{◌≡◌}
 use Prim.Native.Nat.{◌+◌, ◌-◌, ◌≤◌}
-use native.Mathlib.Omega.{arith}
-use borrow.Author.Rules.{rules}
 use Rattle.windows.proofs.missing_by.Given as goal
 
 abbrev pub invariant-loop-passed : goal.invariant-loop-passed
