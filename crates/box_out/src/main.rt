@@ -2,6 +2,10 @@
 // on standard error, and nothing on standard output.
 #![tactic(auto)]
 
+ghost use Rattle.std.specs.Prelude.{◌≤◌, length};
+
+use std::env::Env;
+
 fn file_room() -> [u8; 2097153] {
     [0u8; 2097153]
 }
@@ -19,10 +23,20 @@ fn serve(type_word: &[u8], instance_word: &[u8]) {
     desk::say(1, 2, r, &bytes);
 }
 
-fn main() {
+// A word of the command line, put into a buffer; of a word that is missing or longer, nothing.
+fn word(rt: &impl Env, i: usize, buffer: &mut [u8]) -> usize
+    ensures { result ≤ length buffer.new }
+{
+    match rt.arg(i, buffer) {
+        Ok(n) => n,
+        Err(_) => 0,
+    }
+}
+
+fn main(rt: HostRuntime) {
     let mut first = [0u8; 16];
-    let n = os::arg(1, &mut first);
+    let n = word(&rt, 1, &mut first);
     let mut second = [0u8; 16];
-    let m = os::arg(2, &mut second);
+    let m = word(&rt, 2, &mut second);
     serve(&first[..n], &second[..m]);
 }

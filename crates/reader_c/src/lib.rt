@@ -15,8 +15,7 @@ ghost use Rattle.transform_rules.specs.Call.{inverse_transform};
 ghost use Rattle.preview_rules.specs.Call.{preview_owes};
 
 // C1, C3, C4: one box, assembled from its packets; the type's first byte is the highest of its number.
-#[unsafe(no_mangle)]
-pub extern "C" fn xt_box_bytes(
+pub fn xt_box_bytes(
     file: &[u8],
     kind: u32,
     instance: u16,
@@ -34,8 +33,7 @@ pub extern "C" fn xt_box_bytes(
 }
 
 // C1, C4: the listing of a file's packets as text.
-#[unsafe(no_mangle)]
-pub extern "C" fn xt_list_packets(
+pub fn xt_list_packets(
     file: &[u8],
     text: &mut [u8],
     place: &mut u64,
@@ -51,8 +49,7 @@ pub extern "C" fn xt_list_packets(
 }
 
 // C1, C4: a DC plane read, level plane-1 values to level plane.
-#[unsafe(no_mangle)]
-pub extern "C" fn xt_read_dc_plane(
+pub fn xt_read_dc_plane(
     plane: u32,
     blocks: usize,
     data: &[u8],
@@ -71,8 +68,7 @@ pub extern "C" fn xt_read_dc_plane(
 }
 
 // C1, C4: a DC plane written.
-#[unsafe(no_mangle)]
-pub extern "C" fn xt_write_dc_plane(
+pub fn xt_write_dc_plane(
     plane: u32,
     blocks: usize,
     values: &[i32],
@@ -90,8 +86,7 @@ pub extern "C" fn xt_write_dc_plane(
 }
 
 // C1, C4: dequantising and the inverse transform.
-#[unsafe(no_mangle)]
-pub extern "C" fn xt_inverse_transform(
+pub fn xt_inverse_transform(
     refinement: u32,
     blocks: usize,
     values: &[i32],
@@ -110,8 +105,7 @@ pub extern "C" fn xt_inverse_transform(
 }
 
 // C1, C4: how far a preview can be from the full picture at each place of a block, in samples, with so many planes left.
-#[unsafe(no_mangle)]
-pub extern "C" fn xt_preview_owes(
+pub fn xt_preview_owes(
     left: u32,
     quantisers: &[u16],
     destination: &mut [u32],
@@ -127,8 +121,7 @@ pub extern "C" fn xt_preview_owes(
 }
 
 // C1, C4: an AC plane read.
-#[unsafe(no_mangle)]
-pub extern "C" fn xt_read_ac_plane(
+pub fn xt_read_ac_plane(
     plane: u32,
     blocks: usize,
     counts: &[u8],
@@ -148,8 +141,7 @@ pub extern "C" fn xt_read_ac_plane(
 }
 
 // C1, C4: an AC plane written.
-#[unsafe(no_mangle)]
-pub extern "C" fn xt_write_ac_plane(
+pub fn xt_write_ac_plane(
     plane: u32,
     blocks: usize,
     counts: &[u8],
@@ -169,8 +161,7 @@ pub extern "C" fn xt_write_ac_plane(
 }
 
 // C1, C4: the merge to 9 to 16 bits.
-#[unsafe(no_mangle)]
-pub extern "C" fn xt_merge(
+pub fn xt_merge(
     rb: u32,
     rh: u32,
     rr: u32,
