@@ -1,0 +1,21 @@
+-- What the loops of `previews::fill_quarter` keep, and what goes down.
+use borrow.Author.Rules.{rules}
+use mathlib.Core.Path.{◌≡◌, sym, ap, ◌∙◌}
+use mathlib.Core.List.{List}
+use Prim.Native.Nat.{ℕ, ◌-◌, ◌*◌, ◌/◌, ◌%◌, ◌^◌, ◌≤◌, ◌<◌}
+use native.Mathlib.Omega.{arith}
+use lib.ListN.{length}
+use Rattle.laws.specs.Apart.{apart_rounded}
+use Rattle.laws.proofs.Fill.{front, front_start, front_length, front_turn, front_end}
+use Rattle.previews.specs.Code.{along, quarter}
+use Rattle.previews.proofs.Weights.{along_small}
+use Rattle.previews.proofs.fill_quarter.Given as goal
+
+abbrev pub owed-of : ℕ → List ℕ → ℕ → ℕ
+owed-of d reaches p = apart_rounded d ((d - 1) * along reaches (p / 4) (p % 4)) (2 ^ 28)
+
+abbrev pub invariant-loop-p : goal.invariant-loop-p
+invariant-loop-p l = (l.p ≤ 16) × (l.owed ≡ front l.initial.owed (owed-of l.d l.reaches) l.p)
+
+abbrev pub decreases-loop-p : goal.decreases-loop-p
+decreases-loop-p l = 16 - l.p

@@ -1,0 +1,20 @@
+-- What the loops of `previews::write_owed` keep, and what goes down.
+use borrow.Author.Rules.{rules}
+use mathlib.Core.Path.{◌≡◌, ap, sym, ◌∙◌}
+use mathlib.Core.List.{List}
+use Prim.Native.Nat.{ℕ, ◌+◌, ◌-◌, ◌*◌, ◌/◌, ◌%◌, ◌≤◌, ◌<◌}
+use native.Mathlib.Omega.{arith}
+use lib.ListN.{length, get_or}
+use Rattle.laws.proofs.Fill.{front, front_start, front_length, front_turn}
+use Rattle.previews.specs.Code.{fold, unfolded}
+use Rattle.previews.proofs.Tables.{fold_small}
+use Rattle.previews.proofs.write_owed.Given as goal
+
+abbrev pub place_of : List ℕ → ℕ → ℕ
+place_of owed p = get_or owed (fold (p / 8) * 4 + fold (p % 8)) 0
+
+abbrev pub invariant-loop-p : goal.invariant-loop-p
+invariant-loop-p l = (l.p ≤ 64) × (l.destination ≡ front l.initial.destination (place_of l.owed) l.p)
+
+abbrev pub decreases-loop-p : goal.decreases-loop-p
+decreases-loop-p l = 64 - l.p
