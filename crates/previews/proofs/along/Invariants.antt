@@ -1,13 +1,9 @@
 -- What the loops of `previews::along` keep, and what goes down.
-use borrow.Author.Rules.{rules}
-use mathlib.Core.Path.{◌≡◌, sym}
+use mathlib.Core.Path.{◌≡◌}
 use Prim.Native.Nat.{◌+◌, ◌-◌, ◌*◌, ◌≤◌}
-use native.Mathlib.Omega.{arith}
 use lib.ListN.{get_or}
 use Rattle.laws.specs.Index.{total_to}
-use Rattle.laws.proofs.Totals.{total_none, total_turn, total_end}
-use Rattle.previews.specs.Code.{magnitude, along}
-use Rattle.previews.proofs.Weights.{terms_small}
+use Rattle.previews.specs.Code.{magnitude}
 use Rattle.previews.proofs.along.Given as goal
 
 abbrev pub invariant-loop-k : goal.invariant-loop-k

@@ -2,11 +2,11 @@
 use borrow.Author.Rules.{rules}
 use mathlib.Core.Path.{◌≡◌, sym, ap, ◌∙◌}
 use mathlib.Core.List.{List}
-use Prim.Native.Nat.{ℕ, ◌-◌, ◌*◌, ◌/◌, ◌%◌, ◌^◌, ◌≤◌, ◌<◌}
+use Prim.Native.Nat.{ℕ, ◌-◌, ◌*◌, ◌/◌, ◌%◌, ◌^◌, ◌<◌}
 use native.Mathlib.Omega.{arith}
 use lib.ListN.{length}
 use Rattle.laws.specs.Apart.{apart_rounded}
-use Rattle.laws.proofs.Fill.{front, front_start, front_length, front_turn, front_end}
+use Rattle.laws.proofs.Fill.{front_start, front_length, front_turn, front_end}
 use Rattle.previews.specs.Code.{along, quarter}
 use Rattle.previews.proofs.Weights.{along_small}
 use Rattle.previews.proofs.fill_quarter.Goals as goal
@@ -19,7 +19,7 @@ pub loop-p-init : goal.loop-p-init
 loop-p-init c = (search rules, sym (front_start c.args.owed.now (owed-of c.args.d c.args.reaches.now)))
 
 pub along-w-requires : goal.along-w-requires
-along-w-requires c = ((c.requires.table_value.0, c.requires.table_value.1.0), (omega arith, omega (arith, c.requires.table_value.1.1)))
+along-w-requires c = record { table_value = (c.requires.table_value.0, c.requires.table_value.1.0); x_bound = (omega arith, omega (arith, c.requires.table_value.1.1)) }
 
 pub owed_by-n-requires : goal.owed_by-n-requires
 owed_by-n-requires c = (c.requires.le_d.0, (c.requires.le_d.1.0, rw c.along-w.ensures (along_small c.args.reaches.now c.requires.table_value.1.0 (c.loop-p.p / 4) (c.loop-p.p % 4) (omega arith))))

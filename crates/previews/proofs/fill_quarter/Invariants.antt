@@ -1,14 +1,10 @@
 -- What the loops of `previews::fill_quarter` keep, and what goes down.
-use borrow.Author.Rules.{rules}
-use mathlib.Core.Path.{◌≡◌, sym, ap, ◌∙◌}
+use mathlib.Core.Path.{◌≡◌}
 use mathlib.Core.List.{List}
-use Prim.Native.Nat.{ℕ, ◌-◌, ◌*◌, ◌/◌, ◌%◌, ◌^◌, ◌≤◌, ◌<◌}
-use native.Mathlib.Omega.{arith}
-use lib.ListN.{length}
+use Prim.Native.Nat.{ℕ, ◌-◌, ◌*◌, ◌/◌, ◌%◌, ◌^◌, ◌≤◌}
 use Rattle.laws.specs.Apart.{apart_rounded}
-use Rattle.laws.proofs.Fill.{front, front_start, front_length, front_turn, front_end}
-use Rattle.previews.specs.Code.{along, quarter}
-use Rattle.previews.proofs.Weights.{along_small}
+use Rattle.laws.proofs.Fill.{front}
+use Rattle.previews.specs.Code.{along}
 use Rattle.previews.proofs.fill_quarter.Given as goal
 
 abbrev pub owed-of : ℕ → List ℕ → ℕ → ℕ

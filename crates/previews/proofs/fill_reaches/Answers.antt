@@ -2,10 +2,10 @@
 use borrow.Author.Rules.{rules}
 use mathlib.Core.Path.{◌≡◌, sym, ap, ◌∙◌}
 use mathlib.Core.List.{List}
-use Prim.Native.Nat.{ℕ, ◌-◌, ◌/◌, ◌%◌, ◌≤◌, ◌<◌}
+use Prim.Native.Nat.{ℕ, ◌/◌, ◌%◌, ◌<◌}
 use native.Mathlib.Omega.{arith}
 use lib.ListN.{length}
-use Rattle.laws.proofs.Fill.{front, front_start, front_length, front_turn, front_end}
+use Rattle.laws.proofs.Fill.{front_start, front_length, front_turn, front_end}
 use Rattle.previews.specs.Code.{along, reach_table}
 use Rattle.previews.proofs.fill_reaches.Goals as goal
 
@@ -17,7 +17,7 @@ pub loop-p-init : goal.loop-p-init
 loop-p-init c = (search rules, sym (front_start c.args.reaches.now (reach_of c.args.rows.now)))
 
 pub along-w-requires : goal.along-w-requires
-along-w-requires c = (c.requires.table_value, (omega arith, omega (arith, c.requires.rows_len.0)))
+along-w-requires c = record { table_value = c.requires.table_value; x_bound = (omega arith, omega (arith, c.requires.rows_len.0)) }
 
 pub bounds-reaches-p : goal.bounds-reaches-p
 bounds-reaches-p c = let long : length c.loop-p.reaches ≡ 32 = ap length c.loop-p.invariant.1 ∙ front_length c.args.reaches.now (reach_of c.args.rows.now) c.loop-p.p (omega arith) ∙ c.requires.rows_len.1 in

@@ -1,12 +1,9 @@
 -- What the loops of `previews::fill_reaches` keep, and what goes down.
-use borrow.Author.Rules.{rules}
-use mathlib.Core.Path.{◌≡◌, sym, ap, ◌∙◌}
+use mathlib.Core.Path.{◌≡◌}
 use mathlib.Core.List.{List}
-use Prim.Native.Nat.{ℕ, ◌-◌, ◌/◌, ◌%◌, ◌≤◌, ◌<◌}
-use native.Mathlib.Omega.{arith}
-use lib.ListN.{length}
-use Rattle.laws.proofs.Fill.{front, front_start, front_length, front_turn, front_end}
-use Rattle.previews.specs.Code.{along, reach_table}
+use Prim.Native.Nat.{ℕ, ◌-◌, ◌/◌, ◌%◌, ◌≤◌}
+use Rattle.laws.proofs.Fill.{front}
+use Rattle.previews.specs.Code.{along}
 use Rattle.previews.proofs.fill_reaches.Given as goal
 
 abbrev pub reach_of : List ℕ → ℕ → ℕ

@@ -1,15 +1,10 @@
 -- What the loops of `previews::fill_rows` keep, and what goes down.
-use borrow.Author.Rules.{rules}
-use mathlib.Core.Path.{◌≡◌, sym, ap, ◌∙◌}
+use mathlib.Core.Path.{◌≡◌}
 use mathlib.Core.List.{List}
-use Prim.Native.Nat.{ℕ, ◌-◌, ◌≤◌, ◌<◌}
-use native.Mathlib.Omega.{arith}
-use lib.ListN.{length, get_or}
-use Rattle.laws.proofs.Fill.{front, front_start, front_length, front_turn, front_end}
+use Prim.Native.Nat.{ℕ, ◌-◌, ◌≤◌}
+use lib.ListN.{get_or}
+use Rattle.laws.proofs.Fill.{front}
 use Rattle.transform_rules.specs.Zigzag.{zigzag_at}
-use Rattle.transform_rules.proofs.Lengths.{zigzag_small}
-use Rattle.previews.specs.Code.{row_table}
-use Rattle.previews.proofs.Tables.{order_at, order_long}
 use Rattle.previews.proofs.fill_rows.Given as goal
 
 abbrev pub row_of : List ℕ → ℕ → ℕ

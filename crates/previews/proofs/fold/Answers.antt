@@ -1,5 +1,4 @@
 -- `previews::fold` meets its contract. Assumes nothing.
-use borrow.Author.Rules.{rules}
 use native.Mathlib.Omega.{arith}
 use Rattle.previews.specs.Code.{fold}
 use Rattle.previews.proofs.fold.Goals as goal

@@ -1,5 +1,4 @@
 -- `previews::magnitude` meets its contract: the table holds the magnitudes. Assumes nothing.
-use borrow.Author.Rules.{rules}
 use mathlib.Core.Path.{ap, ◌∙◌}
 use mathlib.Core.List.{List}
 use Prim.Native.Nat.{ℕ, ◌+◌, ◌*◌}

@@ -5,7 +5,6 @@ use Prim.Native.Nat.{◌+◌, ◌*◌, ◌≤◌}
 use native.Mathlib.Nat.{mul-le-mul}
 use native.Mathlib.Omega.{arith}
 use lib.ListN.{get_or}
-use Rattle.previews.specs.Code.{magnitude}
 use Rattle.previews.proofs.Tables.{magnitude_small}
 use Rattle.previews.proofs.term.Goals as goal
 

@@ -1,5 +1,4 @@
 -- `previews::write_block` meets its contract: what the first quarter owes, unfolded, is what the block owes. Assumes nothing.
-use borrow.Author.Rules.{rules}
 use mathlib.Core.Path.{◌∙◌}
 use Rattle.previews.proofs.Weights.{owed_is}
 use Rattle.previews.proofs.write_block.Goals as goal

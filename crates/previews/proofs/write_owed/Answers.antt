@@ -2,10 +2,10 @@
 use borrow.Author.Rules.{rules}
 use mathlib.Core.Path.{◌≡◌, ap, sym, ◌∙◌}
 use mathlib.Core.List.{List}
-use Prim.Native.Nat.{ℕ, ◌+◌, ◌-◌, ◌*◌, ◌/◌, ◌%◌, ◌≤◌, ◌<◌}
+use Prim.Native.Nat.{ℕ, ◌+◌, ◌*◌, ◌/◌, ◌%◌, ◌<◌}
 use native.Mathlib.Omega.{arith}
 use lib.ListN.{length, get_or}
-use Rattle.laws.proofs.Fill.{front, front_start, front_length, front_turn}
+use Rattle.laws.proofs.Fill.{front_start, front_length, front_turn}
 use Rattle.previews.specs.Code.{fold, unfolded}
 use Rattle.previews.proofs.Tables.{fold_small}
 use Rattle.previews.proofs.write_owed.Goals as goal
@@ -28,14 +28,14 @@ overflow_mul-i c = let h : c.fold.result < 4 = rw c.fold.ensures (fold_small (c.
     search rules
 
 pub overflow_add-i : goal.overflow_add-i
-overflow_add-i c = let h = row_small c in let l = column-small c in search rules
+overflow_add-i c = let h : c.fold.result < 4 = rw c.fold.ensures (fold_small (c.loop-p.p / 8) (omega arith)) in let l : c.fold-in-loop-p.result < 4 = rw c.fold-in-loop-p.ensures (fold_small (c.loop-p.p % 8) (omega arith)) in search rules
 
 pub offset_bounds-owed-i : goal.offset_bounds-owed-i
-offset_bounds-owed-i c = let h = row_small c in let l = column-small c in search rules
+offset_bounds-owed-i c = let h : c.fold.result < 4 = rw c.fold.ensures (fold_small (c.loop-p.p / 8) (omega arith)) in let l : c.fold-in-loop-p.result < 4 = rw c.fold-in-loop-p.ensures (fold_small (c.loop-p.p % 8) (omega arith)) in search rules
 
 pub bounds-owed-i : goal.bounds-owed-i
-bounds-owed-i c = let h = row_small c in
-    let l = column-small c in
+bounds-owed-i c = let h : c.fold.result < 4 = rw c.fold.ensures (fold_small (c.loop-p.p / 8) (omega arith)) in
+    let l : c.fold-in-loop-p.result < 4 = rw c.fold-in-loop-p.ensures (fold_small (c.loop-p.p % 8) (omega arith)) in
     omega (arith, c.requires.0)
 
 pub bounds-destination-p : goal.bounds-destination-p

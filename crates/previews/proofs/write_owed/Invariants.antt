@@ -1,13 +1,10 @@
 -- What the loops of `previews::write_owed` keep, and what goes down.
-use borrow.Author.Rules.{rules}
-use mathlib.Core.Path.{◌≡◌, ap, sym, ◌∙◌}
+use mathlib.Core.Path.{◌≡◌}
 use mathlib.Core.List.{List}
-use Prim.Native.Nat.{ℕ, ◌+◌, ◌-◌, ◌*◌, ◌/◌, ◌%◌, ◌≤◌, ◌<◌}
-use native.Mathlib.Omega.{arith}
-use lib.ListN.{length, get_or}
-use Rattle.laws.proofs.Fill.{front, front_start, front_length, front_turn}
-use Rattle.previews.specs.Code.{fold, unfolded}
-use Rattle.previews.proofs.Tables.{fold_small}
+use Prim.Native.Nat.{ℕ, ◌+◌, ◌-◌, ◌*◌, ◌/◌, ◌%◌, ◌≤◌}
+use lib.ListN.{get_or}
+use Rattle.laws.proofs.Fill.{front}
+use Rattle.previews.specs.Code.{fold}
 use Rattle.previews.proofs.write_owed.Given as goal
 
 abbrev pub place_of : List ℕ → ℕ → ℕ

@@ -11,10 +11,9 @@ use mir.Facts.{to_z-of_z}
 use Rattle.laws.proofs.Integers.{fit_in}
 use Rattle.merge_rules.specs.Near.{nearest}
 use Rattle.rounding.proofs.Laws.{lift, Lifted, lifted, whole_is, nearest_small}
-use Rattle.rounding.proofs.whole.Statement.{statement}
-use Rattle.rounding.proofs.whole.Tie as tie
+use Rattle.rounding.proofs.whole.Goals as goal
 
-module _ (c : tie.Start) where
+module _ (c : goal.Start) where
   t-read : to_z w64 (of_z w64 c.args.t) ≡ c.args.t
   t-read = to_z-of_z c.ranges.t
 
@@ -39,20 +38,17 @@ module _ (c : tie.Start) where
   nearest-fits : SFits w64 (nearest c.args.t 1000000)
   nearest-fits = fit_in w64 {n = 4000000000000000001} tt (let h = nearest_small c.args.t 1000000 (omega arith) in omega (arith, c.requires))
 
-add-lifted : tie.Need-overflow-add-lifted
-add-lifted c = rw (t-read c) (sum_fits c)
+pub overflow_add-lifted : goal.overflow_add-lifted
+overflow_add-lifted c = rw (t-read c) (sum_fits c)
 
-cast-lifted : tie.Need-overflow-cast-lifted
-cast-lifted c = rw (t-read c, to_z-of_z (sum_fits c)) (subst (λ (z : ℤ). T (non_neg z)) (sym (up-there c).same) tt, record { fits = omega (arith, (up-there c).small) })
+pub overflow_cast-lifted : goal.overflow_cast-lifted
+overflow_cast-lifted c = rw (t-read c, to_z-of_z (sum_fits c)) (subst (λ (z : ℤ). T (non_neg z)) (sym (up-there c).same) tt, record { fits = omega (arith, (up-there c).small) })
 
-cast-quotient : tie.Need-overflow-cast-quotient
-cast-quotient c = rw (t-read c, to_z-of_z (sum_fits c)) (quotient_fits c)
+pub overflow_cast-quotient : goal.overflow_cast-quotient
+overflow_cast-quotient c = rw (t-read c, to_z-of_z (sum_fits c)) (quotient_fits c)
 
-sub-result : tie.Need-overflow-sub-result
-sub-result c = rw (t-read c, to_z-of_z (sum_fits c), quotient-read c, is-nearest c) (nearest-fits c)
+pub overflow_sub-result : goal.overflow_sub-result
+overflow_sub-result c = rw (t-read c, to_z-of_z (sum_fits c), quotient-read c, is-nearest c) (nearest-fits c)
 
-returns : tie.Need-returns
+pub returns : goal.returns
 returns c = rw (t-read c, to_z-of_z (sum_fits c), quotient-read c, is-nearest c, to_z-of_z (nearest-fits c)) (refl, nearest_small c.args.t 1000000 (omega arith))
-
-pub whole-spec : {M : Type 1} → statement M
-whole-spec = tie.close (tie.spec add-lifted cast-lifted cast-quotient sub-result returns)
