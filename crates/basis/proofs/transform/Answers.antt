@@ -11,21 +11,43 @@ use Rattle.laws.proofs.Integers.{back}
 use Rattle.merge_rules.specs.Steps.{transform, tints}
 use Rattle.basis.proofs.transform.Goals as goal
 
+-- what the three calls of `tinted` are given, read back
+module _ (c : goal.After-less-cr) where
+  y-read : to_z w64 (of_z w64 c.args.t.first) ≡ c.args.t.first
+  y-read = back w64 c.args.t.first c.struct_told-1.given.0.1
+
+  cb-read : to_z w64 (of_z w64 c.less-cb.result) ≡ c.less-cb.result
+  cb-read = back w64 c.less-cb.result c.less-cb.type_inv
+
+  cr-read : to_z w64 (of_z w64 c.less-cr.result) ≡ c.less-cr.result
+  cr-read = back w64 c.less-cr.result c.less-cr.type_inv
+
+  small : (nat_abs (to_z w64 (of_z w64 c.args.t.first)) ≤ 549755846656) × ((nat_abs (to_z w64 (of_z w64 c.less-cb.result)) ≤ 549755846656) × (nat_abs (to_z w64 (of_z w64 c.less-cr.result)) ≤ 549755846656))
+  small = rw (y-read, cb-read, cr-read) (omega (arith, c.requires.0.first_small), (c.less-cb.ensures.1, c.less-cr.ensures.1))
+
+  cb-is : c.less-cb.result ≡ c.args.t.second -ℤ c.args.centre
+  cb-is = c.less-cb.ensures.0 ∙ rw (back w64 c.args.t.second c.struct_told-1.given.1.0.1, to_z-of_z c.ranges.centre)
+
+  cr-is : c.less-cr.result ≡ c.args.t.third -ℤ c.args.centre
+  cr-is = c.less-cr.ensures.0 ∙ rw (back w64 c.args.t.third c.struct_told-1.given.1.1.0.1, to_z-of_z c.ranges.centre)
+
 pub tinted-red-requires : goal.tinted-red-requires
-unfolding start
-tinted-red-requires c = ((omega arith, omega arith), small c)
+tinted-red-requires c = record { l_bound = (omega arith, omega arith); y_bound = small c }
 
 pub tinted-green-requires : goal.tinted-green-requires
-unfolding start
-tinted-green-requires c = ((omega arith, omega arith), small c)
+tinted-green-requires c = record { l_bound = (omega arith, omega arith); y_bound = small c.before }
 
 pub tinted-blue-requires : goal.tinted-blue-requires
-unfolding start
-tinted-blue-requires c = ((omega arith, omega arith), small c)
+tinted-blue-requires c = record { l_bound = (omega arith, omega arith); y_bound = small c.before.before }
 
 pub returns : goal.returns
-unfolding transform tints start
-returns c = rw (back w64 c.tinted-red.result c.tinted-red.type_inv, back w64 c.tinted-green.result c.tinted-green.type_inv, back w64 c.tinted-blue.result c.tinted-blue.type_inv) (
-      rw (c.tinted-red.ensures.0, c.tinted-green.ensures.0, c.tinted-blue.ensures.0, y-read c, cb-read c ∙ cb-is c, cr-read c ∙ cr-is c),
-      record { first_small = c.tinted-red.ensures.1; second_small = c.tinted-green.ensures.1; third_small = c.tinted-blue.ensures.1 },
+unfolding transform tints
+returns c =
+    let r = c.tinted-red in
+    let g = c.tinted-green in
+    let b = c.tinted-blue in
+    let l = c.before.before.before in
+    rw (back w64 r.result r.type_inv, back w64 g.result g.type_inv, back w64 b.result b.type_inv) (
+      rw (r.ensures.0, g.ensures.0, b.ensures.0, y-read l, cb-read l ∙ cb-is l, cr-read l ∙ cr-is l),
+      record { first_small = r.ensures.1; second_small = g.ensures.1; third_small = b.ensures.1 },
     )

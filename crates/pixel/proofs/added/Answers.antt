@@ -12,6 +12,20 @@ use Rattle.merge_rules.specs.Steps.{added}
 use Rattle.pixel.proofs.Laws.{sum_below, difference_below}
 use Rattle.pixel.proofs.added.Goals as goal
 
+module _ (c : goal.After-centre_of-centre) where
+  sum_fits : SFits w64 (c.args.b +ℤ c.args.r)
+  sum_fits = fit_in w64 tt (sum_below c.args.b c.args.r c.requires.1.0 c.requires.1.1)
+
+  difference-fits : SFits w64 (c.args.b +ℤ c.args.r -ℤ c.centre_of-centre.result)
+  difference-fits =
+      fit_in w64 tt (difference_below (c.args.b +ℤ c.args.r) c.centre_of-centre.result (sum_below c.args.b c.args.r c.requires.1.0 c.requires.1.1) c.centre_of-centre.ensures.1)
+
+  -- what `clip` is given, read back
+  given : to_z w64 (of_z w64 (to_z w64 (of_z w64 (to_z w64 (of_z w64 c.args.b) +ℤ to_z w64 (of_z w64 c.args.r))) -ℤ to_z w64 (of_z w64 c.centre_of-centre.result))) ≡ c.args.b +ℤ c.args.r -ℤ pos (2 ^ (7 + c.args.rb))
+  given =
+      rw (to_z-of_z c.ranges.b, to_z-of_z c.ranges.r, to_z-of_z sum_fits, back w64 c.centre_of-centre.result c.centre_of-centre.type_inv, to_z-of_z difference-fits)
+      (ap (λ z. c.args.b +ℤ c.args.r -ℤ z) c.centre_of-centre.ensures.0)
+
 pub overflow_add-b : goal.overflow_add-b
 overflow_add-b c = rw (to_z-of_z c.ranges.b, to_z-of_z c.ranges.r) (sum_fits c)
 
@@ -20,5 +34,5 @@ overflow_sub-b c = rw (to_z-of_z c.ranges.b, to_z-of_z c.ranges.r, to_z-of_z (su
 
 pub returns : goal.returns
 unfolding added
-returns c = let given : to_z w64 (of_z w64 (to_z w64 (of_z w64 (to_z w64 (of_z w64 c.args.b) +ℤ to_z w64 (of_z w64 c.args.r))) -ℤ to_z w64 (of_z w64 c.centre_of-centre.result))) ≡ c.args.b +ℤ c.args.r -ℤ pos (2 ^ (7 + c.args.rb)) = rw (to_z-of_z c.ranges.b, to_z-of_z c.ranges.r, to_z-of_z (sum_fits c), back w64 c.centre_of-centre.result c.centre_of-centre.type_inv, to_z-of_z (difference-fits c)) (ap (λ z. c.args.b +ℤ c.args.r -ℤ z) c.centre_of-centre.ensures.0) in
-    c.clip.ensures ∙ ap (λ z. clip z c.top_of.result) (given) ∙ ap (clip (c.args.b +ℤ c.args.r -ℤ pos (2 ^ (7 + c.args.rb)))) c.top_of.ensures.0
+returns c =
+    c.clip.ensures ∙ ap (λ z. clip z c.top_of.result) (given c.before.before) ∙ ap (clip (c.args.b +ℤ c.args.r -ℤ pos (2 ^ (7 + c.args.rb)))) c.top_of.ensures.0
