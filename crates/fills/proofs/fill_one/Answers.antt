@@ -9,7 +9,7 @@ pub loop-p-init : goal.loop-p-init
 loop-p-init c = filling_start _ _ _ _ _ _
 
 pub one_at-v-requires : goal.one_at-v-requires
-one_at-v-requires c = (c.requires.lending, (c.requires.components_value.0, c.loop-p-test.true))
+one_at-v-requires c = record { lending = c.requires.lending; components_value = (c.requires.components_value.0, c.loop-p-test.true) }
 
 pub offset_bounds-destination-p : goal.offset_bounds-destination-p
 offset_bounds-destination-p c = omega (arith, c.requires.lending.ranged.pixels_few)

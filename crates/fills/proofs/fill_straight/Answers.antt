@@ -28,11 +28,14 @@ pub make_tones-requires : goal.make_tones-requires
 make_tones-requires c = (omega (arith, c.requires.passed.0.ranged.rb_small), (c.requires.passed.0.ranged.rh_small, array_long _ c.requires.passed.0.ranged.rh_small))
 
 pub fill_by-requires-2 : goal.fill_by-requires-2
-fill_by-requires-2 c = let tones-long : 2 ^ (8 + c.args.s.rh) ≤ length c.make_tones.new.1.1.0 = omega (arith, c.make_tones.auto.1.1.0, array_long _ c.requires.passed.0.ranged.rh_small) in
-    rw c.by_table.ensures (tones_there c.requires.passed.0 c.requires.passed.1 _ c.make_tones.ensures (tones-long), c.requires.pixels_in_bounds)
+fill_by-requires-2 c = let tones-long : 2 ^ (8 + c.args.s.rh) ≤ length c.make_tones.new.tones = omega (arith, c.make_tones.auto.tones, array_long _ c.requires.passed.0.ranged.rh_small) in
+    record {
+      lending = rw c.by_table.ensures (tones_there c.requires.passed.0 c.requires.passed.1 _ c.make_tones.ensures (tones-long));
+      pixels_in_bounds = rw c.by_table.ensures c.requires.pixels_in_bounds;
+    }
 
 pub returns : goal.returns
-returns c = let tones-long : 2 ^ (8 + c.args.s.rh) ≤ length c.make_tones.new.1.1.0 = omega (arith, c.make_tones.auto.1.1.0, array_long _ c.requires.passed.0.ranged.rh_small) in
+returns c = let tones-long : 2 ^ (8 + c.args.s.rh) ≤ length c.make_tones.new.tones = omega (arith, c.make_tones.auto.tones, array_long _ c.requires.passed.0.ranged.rh_small) in
     c.fill_by-2.ensures
-    ∙ ap (λ k. merged_picture k c.args.pixels c.args.base.now c.args.residual.now c.make_tones.new.1.1.0 ++ drop (samples k c.args.pixels) c.args.destination.now) c.by_table.ensures
-    ∙ ap (λ l. l ++ drop (samples c.args.s c.args.pixels) c.args.destination.now) (tones_alike c.requires.passed.0 c.requires.passed.1 c.make_tones.new.1.1.0 c.make_tones.ensures (tones-long))
+    ∙ ap (λ k. merged_picture k c.args.pixels c.args.base.now c.args.residual.now c.make_tones.new.tones ++ drop (samples k c.args.pixels) c.args.destination.now) c.by_table.ensures
+    ∙ ap (λ l. l ++ drop (samples c.args.s c.args.pixels) c.args.destination.now) (tones_alike c.requires.passed.0 c.requires.passed.1 c.make_tones.new.tones c.make_tones.ensures (tones-long))

@@ -10,7 +10,7 @@ pub loop-p-init : goal.loop-p-init
 loop-p-init c = filling_start _ _ _ _ _ _
 
 pub three_at-v-requires : goal.three_at-v-requires
-three_at-v-requires c = (c.requires.lending, (c.requires.components_value.0, c.loop-p-test.true))
+three_at-v-requires c = record { lending = c.requires.lending; components_value = (c.requires.components_value.0, c.loop-p-test.true) }
 
 pub overflow_add-q : goal.overflow_add-q
 overflow_add-q c = omega (arith, c.requires.lending.ranged.pixels_few)

@@ -13,6 +13,15 @@ use Rattle.laws.proofs.First.{first_start, first_more, first_found, first_end}
 use Rattle.merge_rules.specs.Settings.{entry_right}
 use Rattle.settings.proofs.first_large.Goals as goal
 
+module _ (most : ℕ) (table : List ℕ) (i : ℕ) where
+  right : get_or table i 0 ≤ most → entry_right most table i ≡ true
+  unfolding entry_right
+  right h = le-leb _ _ h
+
+  large : most < get_or table i 0 → entry_right most table i ≡ false
+  unfolding entry_right
+  large h = lt-leb _ _ h
+
 pub loop-i-init : goal.loop-i-init
 loop-i-init c = (omega arith, first_start _)
 
