@@ -7,4 +7,4 @@ pub returns-in-Given : goal.returns-in-Given
 returns-in-Given c = meets_given c.try_merge-tried.ensures c.in-Given.is c.answer_of.ensures
 
 pub returns-in-Refused : goal.returns-in-Refused
-returns-in-Refused c = meets_refused c.try_merge-tried.ensures c.in-Refused.is c.answer_of-in-Refused.ensures c.try_merge-tried.auto.1.1.1.1.1.0 c.clear_u16.ensures
+returns-in-Refused c = meets_refused c.try_merge-tried.ensures c.in-Refused.is c.answer_of-in-Refused.ensures c.try_merge-tried.auto.destination c.clear_u16.ensures
