@@ -1,0 +1,13 @@
+-- What the loops of `fills::fill_three` keep, and what goes down.
+use mathlib.Core.Path.{ap}
+use Prim.Native.Nat.{◌-◌, ◌*◌, ◌≤◌}
+use native.Mathlib.Omega.{arith}
+use lib.ListN.{length, length-set}
+use Rattle.fills.proofs.Filling.{Filling, filling_start, filling_long, filling_three, filling_end}
+use Rattle.fills.proofs.fill_three.Given as goal
+
+abbrev pub invariant-loop-p : goal.invariant-loop-p
+invariant-loop-p l = Filling l.s l.pixels l.base l.residual l.table l.initial.destination l.destination l.p
+
+abbrev pub decreases-loop-p : goal.decreases-loop-p
+decreases-loop-p l = l.pixels - l.p

@@ -1,0 +1,16 @@
+-- `transform::is_quantiser` meets its contract, test by test. Assumes nothing.
+use mathlib.Core.Path.{sym}
+use borrow.Author.Tests.{lt-leb, le-leb}
+use lib.Dec.{leb}
+use Rattle.laws.specs.Index.{every}
+use Rattle.laws.proofs.Tests.{every_last}
+use Rattle.transform_rules.specs.Call.{is_quantiser}
+use Rattle.transform.proofs.is_quantiser.Goals as goal
+
+pub returns-then-entry-lt1 : goal.returns-then-entry-lt1
+unfolding is_quantiser every
+returns-then-entry-lt1 c = rw (lt-leb 1 c.args.entry c.if-entry-lt1.true)
+
+pub returns : goal.returns
+unfolding is_quantiser every
+returns c = rw (le-leb 1 c.args.entry c.if-entry-lt1.false) (sym (every_last (leb c.args.entry 255)))
