@@ -10,8 +10,7 @@ use mir.Syntax.{w64}
 use mir.Val.{SFits}
 use mir.Facts.{to_z-of_z}
 use Rattle.laws.proofs.Integers.{up, dn, sum, one, abs, abs_sum, eq_z, pos_up, pos_dn, back, fit_in}
-use Rattle.c_vectors.proofs.lifted.Statement.{statement}
-use Rattle.c_vectors.proofs.lifted.Tie as tie
+use Rattle.c_vectors.proofs.lifted.Goals as goal
 
 -- z lifted by 2^31 is no negative number
 positive : (z : ℤ) → nat_abs z ≤ 2147483648 → z +ℤ pos 2147483648 ≡ pos (nat_abs (z +ℤ pos 2147483648))
@@ -24,16 +23,10 @@ positive z h =
 small : (z : ℤ) → nat_abs z ≤ 2147483648 → nat_abs (z +ℤ pos 2147483648) ≤ 4294967296
 small z h = omega (arith, abs_sum z (pos 2147483648))
 
-fits : (c : tie.After-wide) → SFits w64 (c.wide.result +ℤ pos 2147483648)
-fits c = fit_in w64 tt (small c.wide.result c.wide.ensures.1)
+pub overflow_add-w : goal.overflow_add-w
+overflow_add-w c = let fits : SFits w64 (c.wide-w.result +ℤ pos 2147483648) = fit_in w64 tt (small c.wide-w.result c.wide-w.ensures.1) in
+    rw (back w64 c.wide-w.result c.wide-w.type_inv) (fits)
 
-add-w : tie.Need-overflow-add-w
-add-w c = rw (back w64 c.wide.result c.wide.type-inv) (fits c)
-
-cast-result : tie.Need-overflow-cast-result
-cast-result c =
-    let z = c.wide.result in
-    rw (back w64 z c.wide.type-inv, to_z-of_z (fits c)) (subst (λ (y : ℤ). T (non_neg y)) (sym (positive z c.wide.ensures.1)) tt, record { fits = omega (arith, small z c.wide.ensures.1) })
-
-pub lifted-spec : {M : Type 1} → statement M
-lifted-spec = tie.close (tie.spec (λ c κs. search rules) add-w cast-result (λ c. search rules))
+pub overflow_cast-result : goal.overflow_cast-result
+overflow_cast-result c = let fits : SFits w64 (c.wide-w.result +ℤ pos 2147483648) = fit_in w64 tt (small c.wide-w.result c.wide-w.ensures.1) in
+    rw (back w64 c.wide-w.result c.wide-w.type_inv, to_z-of_z (fits)) (subst (λ (y : ℤ). T (non_neg y)) (sym (positive c.wide-w.result c.wide-w.ensures.1)) tt, record { fits = omega (arith, small c.wide-w.result c.wide-w.ensures.1) })

@@ -1,0 +1,9 @@
+-- `plane_vectors::halve` is safe. Assumes nothing.
+use mathlib.Core.Path.{◌≡◌, refl}
+use Prim.Native.Nat.{◌-◌}
+use lib.ListN.{length}
+use borrow.Author.Rules.{rules}
+use Rattle.plane_vectors.proofs.halve.Goals as goal
+
+pub loop-i-init : goal.loop-i-init
+loop-i-init c = refl
