@@ -24,8 +24,7 @@ returns-then-not-writable c = let counts : every (readable c.args.plane c.args.b
 pub returns-then-values-blocks : goal.returns-then-values-blocks
 unfolding written_dc
 returns-then-values-blocks c = let counts : every (readable c.args.plane c.args.blocks) ≡ true = sym c.readable.ensures ∙ c.if-not-readable.false in
-    let level : writable our_writer c.args.plane ≡ true = sym c.writable.ensures ∙ c.if-not-writable.false in
-    tried_refused c.refuse-then-values-blocks.ensures (rw (counts, level, ne_eqb _ _ c.if-values-blocks.true))
+    tried_refused c.refuse-then-values-blocks.ensures (rw (counts, sym c.writable.ensures ∙ c.if-not-writable.false, ne_eqb _ _ c.if-values-blocks.true))
 
 pub first_outside-requires : goal.first_outside-requires
 first_outside-requires c = let counts : every (readable c.args.plane c.args.blocks) ≡ true = sym c.readable.ensures ∙ c.if-not-readable.false in
