@@ -1,10 +1,9 @@
 -- `ac_plan::ahead_of` meets its contract: what is seen from here, behind the zeros passed, is what is seen from the start. Assumes nothing.
 use mathlib.Core.Path.{refl, ap, ◌∙◌}
 use mathlib.Core.Bool.{true, false}
-use Prim.Native.Nat.{◌-◌}
 use native.Mathlib.Omega.{arith}
 use lib.IntN.{pos, negsuc}
-use lib.ListN.{length, get_or}
+use lib.ListN.{get_or}
 use mir.Syntax.{w32}
 use mir.Val.{of_z}
 use Rattle.laws.proofs.Integers.{back}
@@ -12,8 +11,7 @@ use Rattle.plane_rules.specs.AcWrite.{kind_of}
 use Rattle.plane_rules.proofs.Halves.{kind_one, kind_minus_one}
 use Rattle.ac_plan.specs.Code.{still_is}
 use Rattle.ac_plan.proofs.KindTests.{is_one, is_minus_one}
-use Rattle.ac_plan.proofs.Looking.{Looked, look_start, look_end, look_on, look_new}
-use borrow.Author.Rules.{rules}
+use Rattle.ac_plan.proofs.Looking.{look_start, look_end, look_on, look_new}
 use Rattle.ac_plan.proofs.ahead_of.Goals as goal
 
 pub loop-i-init : goal.loop-i-init

@@ -3,12 +3,9 @@ use mathlib.Core.Path.{ap}
 use mir.Syntax.{w32}
 use mir.Val.{of_z}
 use mir.Facts.{to_z-of_z}
-use Rattle.laws.proofs.Integers.{half_fits}
-use Rattle.planes.proofs.LowBit.{rest_fits}
 use Rattle.plane_rules.proofs.Halves.{kind_zero, kind_one, kind_minus_one}
 use Rattle.ac_plan.specs.Code.{kind_is}
 use Rattle.ac_plan.proofs.KindTests.{is_zero, is_one, is_minus_one, kept}
-use borrow.Author.Rules.{rules}
 use Rattle.ac_plan.proofs.kind_of.Goals as goal
 
 pub returns-then-value-eq0 : goal.returns-then-value-eq0

@@ -1,7 +1,6 @@
 -- `ac_plan::plan` meets its contract. Assumes nothing.
 use Rattle.ac_plan.proofs.Tasks.{plan_set, plan_leave, plan_ended}
 use native.Mathlib.Omega.{arith}
-use borrow.Author.Rules.{rules}
 use Rattle.ac_plan.proofs.plan.Goals as goal
 
 pub returns-then-zeros-lt16 : goal.returns-then-zeros-lt16

@@ -5,10 +5,9 @@ use mathlib.Core.List.{List}
 use lib.IntN.{ℤ}
 use lib.ListN.{take, drop}
 use Rattle.plane_rules.specs.AcWrite.{ahead}
-use Rattle.ac_plan.specs.Code.{kinds_from, coming_is}
-use Rattle.ac_plan.proofs.Looking.{Passed, passed_none, passed_all, passed_one, passed_new}
+use Rattle.ac_plan.specs.Code.{kinds_from}
+use Rattle.ac_plan.proofs.Looking.{passed_none, passed_all, passed_one, passed_new}
 use native.Mathlib.Omega.{arith}
-use borrow.Author.Rules.{rules}
 use Rattle.ac_plan.proofs.quiet_of.Goals as goal
 
 -- the n-th block behind has 63 values

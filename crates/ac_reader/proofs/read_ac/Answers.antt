@@ -1,6 +1,5 @@
 -- `ac_reader::read_ac` meets its promise. Assumes nothing.
 use Rattle.answers.proofs.Laws.{meets_given, meets_refused}
-use borrow.Author.Rules.{rules}
 use Rattle.ac_reader.proofs.read_ac.Goals as goal
 
 pub returns-in-Refused : goal.returns-in-Refused

@@ -1,14 +1,11 @@
 -- `ac_reader::read_block` meets its contract: what is left to read, behind the values read so far, is the whole. Assumes nothing.
 use mathlib.Core.Path.{sym, ap, ◌∙◌}
 use mathlib.Core.Option.{some}
-use Prim.Native.Nat.{◌-◌}
-use lib.ListN.{length}
 use Rattle.bit_rules.specs.Table.{table}
 use Rattle.ac_tasks.specs.Code.{task_of, open_of, asked_of, block_of}
 use Rattle.ac_steps.specs.Code.{At}
 use Rattle.ac_steps.proofs.Positions.{at_first, at_asked_stopped, at_asked, at_end}
 use native.Mathlib.Omega.{arith}
-use borrow.Author.Rules.{rules}
 use Rattle.ac_reader.proofs.read_block.Goals as goal
 
 pub loop-i-init : goal.loop-i-init

@@ -3,9 +3,8 @@ use mathlib.Core.Path.{◌≡◌, sym, ap, ◌∙◌}
 use Prim.Native.Nat.{◌+◌, ◌-◌, ◌≤◌}
 use lib.ListN.{length}
 use borrow.Rule.Slice.PartMut.{mid_len}
-use Rattle.bit_rules.specs.Table.{table}
 use Rattle.ac_tasks.specs.Code.{block_of}
-use Rattle.ac_reader.proofs.Plane.{Behind, behind_none, behind_all, behind_stopped, behind_one, small_part}
+use Rattle.ac_reader.proofs.Plane.{behind_none, behind_all, behind_stopped, behind_one, small_part}
 use native.Mathlib.Omega.{arith}
 use borrow.Author.Rules.{rules}
 use Rattle.ac_reader.proofs.read_blocks.Goals as goal

@@ -1,13 +1,7 @@
 -- What the loops of `ac_reader::read_blocks` keep, and what goes down.
-use mathlib.Core.Path.{◌≡◌, sym, ap, ◌∙◌}
-use Prim.Native.Nat.{◌+◌, ◌-◌, ◌≤◌}
-use lib.ListN.{length}
-use borrow.Rule.Slice.PartMut.{mid_len}
+use Prim.Native.Nat.{◌-◌}
 use Rattle.bit_rules.specs.Table.{table}
-use Rattle.ac_tasks.specs.Code.{block_of}
-use Rattle.ac_reader.proofs.Plane.{Behind, behind_none, behind_all, behind_stopped, behind_one, small_part}
-use native.Mathlib.Omega.{arith}
-use borrow.Author.Rules.{rules}
+use Rattle.ac_reader.proofs.Plane.{Behind}
 use Rattle.ac_reader.proofs.read_blocks.Given as goal
 
 abbrev pub invariant-loop-block : goal.invariant-loop-block
