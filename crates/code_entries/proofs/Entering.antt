@@ -2,7 +2,7 @@
 use mathlib.Core.Path.{◌≡◌, refl, sym, ap, subst, ◌∙◌}
 use mathlib.Core.List.{List}
 use mathlib.Core.Bool.{Bool, true, false, not}
-use Prim.Native.Nat.{ℕ, ◌+◌, ◌/◌, ◌%◌, ◌≤◌, ◌<◌}
+use Prim.Native.Nat.{ℕ, ◌+◌, ◌*◌, ◌/◌, ◌%◌, ◌≤◌, ◌<◌}
 use native.Mathlib.Numerals.{add-one}
 use native.Mathlib.Omega.{arith}
 use lib.Dec.{eqb}
@@ -39,11 +39,19 @@ pub enter_start : (T : Table) → Entering T (replicate 256 0) 0
 unfolding first_fail digits
 enter_start T = record { within = omega arith; long = refl; each = λ v h. rw (get_or-replicate {A = ℕ} 256 v 0 0 h) (record { same = refl; short = omega arith; none = refl }) }
 
+-- a number of so many times w, and less than w more, gives back both
+parts : {found : List Bool} (w n s : ℕ) → digits s n ≡ found → s < w → digits ((w * n + s) % w) ((w * n + s) / w) ≡ found
+parts w n s e h =
+    let m : (w * n + s) % w ≡ s = grind arith in
+    let d : (w * n + s) / w ≡ n = grind arith in
+    rw (m, d) e
+
 pub entered : {counts : List ℕ} {place : ℕ} {code : Code} → Assigned counts place code → Entered counts (At place) (entry_of code)
-entered {counts} {place} {code} a =
-    let m : (entry_of code) % 32 ≡ code.size = omega (arith, a.short) in
-    let d : (entry_of code) / 32 ≡ code.number = omega (arith, a.short) in
-    record { same = rw (m, d) a.same; short = omega (arith, a.short); none = ne_eqb (entry_of code) 0 (λ z. omega (arith, a.some)) }
+entered {counts} {place} {code} a = record {
+  same = parts _ code.number code.size a.same (omega (arith, a.short));
+  short = omega (arith, a.short);
+  none = ne_eqb (entry_of code) 0 (λ z. omega (arith, a.some));
+}
 
 module _ {T : Table} {entries : List ℕ} {place : ℕ} (g : good_table T ≡ true) (a : Entering T entries place) where
   pub enter_turn : {code : Code} {v : ℕ} → place < length T.values → Assigned T.counts place code → v ≡ get_or T.values place 0 → v < 256

@@ -1,0 +1,9 @@
+-- `bits::only_padding` meets its contract. Assumes nothing.
+use Rattle.bits.proofs.Taking.{padding_yes, padding_no}
+use Rattle.bits.proofs.only_padding.Goals as goal
+
+pub returns-then-ones_left : goal.returns-then-ones_left
+returns-then-ones_left c = padding_yes _ _ _ c.ones_left.ensures c.if-ones_left.true
+
+pub returns-else-ones_left : goal.returns-else-ones_left
+returns-else-ones_left c = padding_no _ _ _ c.ones_left.ensures c.if-ones_left.false

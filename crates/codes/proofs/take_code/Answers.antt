@@ -1,0 +1,46 @@
+-- `codes::take_code` meets its contract: what is left to read gives what the whole gives. Assumes nothing.
+use mathlib.Core.Path.{◌≡◌, sym, ap, ◌∙◌}
+use Rattle.bit_rules.specs.Source.{got, take_bit}
+use Rattle.bits.specs.Code.{source_of, taken_of}
+use Rattle.codes.specs.Code.{coded_of}
+use Rattle.bit_rules.proofs.Digits.{bin_small}
+use Rattle.codes.proofs.Reading.{here_first, here_small, here_none, here_stopped, here_room, here_found, here_on}
+use native.Mathlib.Omega.{arith}
+use Rattle.codes.proofs.take_code.Goals as goal
+
+pub loop-l-init : goal.loop-l-init
+loop-l-init c = here_first _ c.requires _
+
+pub overflow_mul-over : goal.overflow_mul-over
+overflow_mul-over c = omega (arith, here_small c.loop-l.invariant c.requires c.loop-l-test.true)
+
+pub overflow_add-over : goal.overflow_add-over
+overflow_add-over c = omega (arith, bin_small c.in-Bit.b, here_small c.loop-l.invariant c.requires c.loop-l-test.true)
+
+pub returns-in-Stopped : goal.returns-in-Stopped
+unfolding coded_of taken_of
+returns-in-Stopped c = here_stopped c.loop-l.invariant c.loop-l-test.true (sym c.bit_at-t.ensures ∙ ap (taken_of _) c.in-Stopped.is)
+
+pub overflow_add-result : goal.overflow_add-result
+unfolding taken_of
+overflow_add-result c = let took : take_bit (source_of c.args.«data».now c.loop-l.cursor) ≡ got c.in-Bit.b (source_of c.args.«data».now c.in-Bit.next) = sym c.bit_at-t.ensures ∙ ap (taken_of _) c.in-Bit.is in
+    omega (arith, here_room c.loop-l.invariant c.loop-l-test.true (took) (rw c.wide-n.ensures.0 at c.if-over-n.true))
+
+pub bounds-values-place : goal.bounds-values-place
+unfolding taken_of
+bounds-values-place c = let took : take_bit (source_of c.args.«data».now c.loop-l.cursor) ≡ got c.in-Bit.b (source_of c.args.«data».now c.in-Bit.next) = sym c.bit_at-t.ensures ∙ ap (taken_of _) c.in-Bit.is in
+    here_room c.loop-l.invariant c.loop-l-test.true (took) (rw c.wide-n.ensures.0 at c.if-over-n.true)
+
+pub returns-then-over-n : goal.returns-then-over-n
+unfolding coded_of taken_of
+returns-then-over-n c = let took : take_bit (source_of c.args.«data».now c.loop-l.cursor) ≡ got c.in-Bit.b (source_of c.args.«data».now c.in-Bit.next) = sym c.bit_at-t.ensures ∙ ap (taken_of _) c.in-Bit.is in
+    here_found c.loop-l.invariant c.loop-l-test.true (took) (rw c.wide-n.ensures.0 at c.if-over-n.true)
+
+pub loop-l-preserved : goal.loop-l-preserved
+unfolding taken_of
+loop-l-preserved c = let took : take_bit (source_of c.args.«data».now c.loop-l.cursor) ≡ got c.in-Bit.b (source_of c.args.«data».now c.in-Bit.next) = sym c.bit_at-t.ensures ∙ ap (taken_of _) c.in-Bit.is in
+    rw c.wide-n.ensures.0 (here_on c.loop-l.invariant c.loop-l-test.true (took) (rw c.wide-n.ensures.0 at c.if-over-n.false))
+
+pub returns : goal.returns
+unfolding coded_of source_of
+returns c = here_none c.loop-l.invariant c.loop-l-test.false

@@ -1,0 +1,34 @@
+-- `dc_reader::new_dc` meets its contract: no intermediate leaves 32 bits. Assumes nothing.
+use mathlib.Core.Path.{◌≡◌}
+use lib.IntN.{pos, ◌+ℤ◌, ◌*ℤ◌}
+use mir.Syntax.{w32}
+use mir.Val.{SFits, to_z}
+use mir.Facts.{to_z_pos}
+use Rattle.bit_rules.specs.Digits.{bin}
+use Rattle.bit_rules.proofs.Digits.{bin_small}
+use Rattle.laws.proofs.Integers.{fit, abs_prod, abs_sum}
+use Rattle.plane_rules.specs.Dc.{new_dc}
+use native.Mathlib.Omega.{arith}
+use borrow.Author.Rules.{rules}
+use Rattle.dc_reader.proofs.new_dc.Goals as goal
+
+pub overflow_mul-result : goal.overflow_mul-result
+overflow_mul-result c = let double : SFits w32 (pos 2 *ℤ c.args.value) = fit w32 (omega (arith, c.requires, abs_prod (pos 2) c.args.value)) in
+    let h = double in search rules
+
+pub overflow_add-result : goal.overflow_add-result
+overflow_add-result c = let double : SFits w32 (pos 2 *ℤ c.args.value) = fit w32 (omega (arith, c.requires, abs_prod (pos 2) c.args.value)) in
+    let doubled : SFits w32 (pos 2 *ℤ c.args.value +ℤ pos (bin c.args.bit)) = fit w32 (omega (arith, c.requires, bin_small c.args.bit, abs_prod (pos 2) c.args.value, abs_sum (pos 2 *ℤ c.args.value) (pos (bin c.args.bit)))) in
+    let bit-read : to_z w32 (bin c.args.bit) ≡ pos (bin c.args.bit) = to_z_pos w32 (omega (arith, bin_small c.args.bit)) in
+    let h = double in
+    let k = doubled in
+    search (rules, bit-read)
+
+pub returns : goal.returns
+unfolding new_dc
+returns c = let double : SFits w32 (pos 2 *ℤ c.args.value) = fit w32 (omega (arith, c.requires, abs_prod (pos 2) c.args.value)) in
+    let doubled : SFits w32 (pos 2 *ℤ c.args.value +ℤ pos (bin c.args.bit)) = fit w32 (omega (arith, c.requires, bin_small c.args.bit, abs_prod (pos 2) c.args.value, abs_sum (pos 2 *ℤ c.args.value) (pos (bin c.args.bit)))) in
+    let bit-read : to_z w32 (bin c.args.bit) ≡ pos (bin c.args.bit) = to_z_pos w32 (omega (arith, bin_small c.args.bit)) in
+    let h = double in
+    let k = doubled in
+    search (rules, bit-read)
