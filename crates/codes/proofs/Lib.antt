@@ -1,2 +1,4 @@
+pub mod Filling
+pub mod Looking
 pub mod Reading
 pub mod Cases

@@ -1,11 +1,12 @@
-// Code tables of T.81, Annex C: validity, reading a code (docs/RULES.md, K1, K2, K4 to K6).
+// Code tables of T.81: validity, reading a code, the numbers of their lengths, a code looked up by them (docs/RULES.md, K1, K2, K4 to K8).
 #![tactic(auto)]
 
-ghost use Rattle.std.specs.Prelude.{◌≡◌, true, ◌<◌, length, drop};
+ghost use Rattle.std.specs.Prelude.{◌≡◌, true, ◌+◌, ◌≤◌, ◌<◌, length, drop};
 ghost use Rattle.bits.specs.Code.{source_of};
 ghost use Rattle.bit_rules.specs.Table.{table, code_count, kraft, holds, distinct, good_table};
 ghost use Rattle.bit_rules.specs.Read.{take_code};
-ghost use Rattle.codes.specs.Code.{coded_of};
+ghost use Rattle.bit_rules.specs.Lookup.{largest_of, limit_of, lengths_from};
+ghost use Rattle.codes.specs.Code.{coded_of, numbers_of, Prepared};
 
 use bits::{Cursor, Taken};
 
@@ -125,6 +126,70 @@ pub fn take_code(counts: &[u8], values: &[u8], data: &[u8], c: Cursor) -> Coded
         }
         over -= n;
         place += n;
+        l += 1;
+    }
+    Coded::Stopped(14, cursor)
+}
+
+// One above the largest of n codes, which begin at the smallest; 0 where there are none.
+fn limit(smallest: usize, n: usize) -> u16
+    requires { smallest + n ≤ 65535 }
+    ensures { result ≡ limit_of (largest_of smallest n) }
+{
+    if n == 0 {
+        return 0;
+    }
+    (smallest + n) as u16
+}
+
+// "the smallest and largest code of each length and the first value's position", made once a call; a largest code is kept plus one.
+pub fn put_numbers(counts: &[u8], numbers: &mut [u16])
+    requires numbers_len { length numbers.old ≡ 48 }
+    requires counts_len { (length counts.now ≡ 16) × (kraft counts.now ≤ 65535) × (code_count counts.now ≤ 256) }
+    ensures { numbers.new ≡ numbers_of (lengths_from 0 0 counts.now) }
+{
+    let mut code = 0;
+    let mut position = 0;
+    let mut l = 0;
+    while l < counts.len() {
+        let n = wide(counts[l]);
+        numbers[3 * l] = code as u16;
+        numbers[3 * l + 1] = limit(code, n);
+        numbers[3 * l + 2] = position as u16;
+        code = 2 * (code + n);
+        position += n;
+        l += 1;
+    }
+}
+
+fn number(x: u16) -> usize
+    ensures { (result ≡ x) × (result < 65536) }
+{
+    x as usize
+}
+
+// The same by the numbers of the lengths: bits are taken while they are above the largest code of their length. (The counts stand in the promise alone.)
+pub fn look_up(counts: &[u8], values: &[u8], numbers: &[u16; 48], data: &[u8], c: Cursor) -> Coded
+    requires { Prepared (table counts.now values.now) numbers.now }
+    ensures { coded_of «data».now result ≡ take_code (table counts.now values.now) (source_of «data».now c) }
+{
+    let mut cursor = c;
+    let mut code = 0;
+    let mut l = 0;
+    while l < 16 {
+        let t = bits::reader::bit_at(data, cursor);
+        match t {
+            Taken::Bit(b, next) => {
+                code = 2 * code + (b as usize);
+                cursor = next;
+            }
+            Taken::Stopped(number, stop) => return Coded::Stopped(number, stop),
+        }
+        if code < number(numbers[3 * l + 1]) {
+            let smallest = number(numbers[3 * l]);
+            let position = number(numbers[3 * l + 2]);
+            return Coded::Value(values[position + code - smallest], cursor);
+        }
         l += 1;
     }
     Coded::Stopped(14, cursor)
