@@ -29,7 +29,7 @@ unfoldable pub lengths_from : ℕ → ℕ → List ℕ → List Length
 lengths_from code position [] = []
 lengths_from code position (n ∷ counts) = record { smallest = code; largest = largest_of code n; position = position } ∷ lengths_from (2 * (code + n)) (position + n) counts
 
--- K7: the numbers of a table, "made once"
+-- K7: the numbers of a table
 abbrev pub lengths_of : Table → List Length
 lengths_of T = lengths_from 0 0 T.counts
 
