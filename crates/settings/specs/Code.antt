@@ -5,7 +5,7 @@ use Rattle.merge_rules.specs.Curves.{entries}
 use Rattle.merge_rules.specs.declared.Setting.{Setting}
 use Rattle.merge_rules.specs.declared.Residual.TheVariants.{Present}
 use Rattle.basis.specs.Code.{Ready}
-use Rattle.merge_rules.specs.Settings.{one_or_three, plain, samples}
+use Rattle.merge_rules.specs.Settings.{one_or_three, samples}
 
 -- the ranges of 20
 pub record Ranged (s : Setting) (pixels : ℕ) : Type 0 where

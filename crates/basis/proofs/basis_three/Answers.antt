@@ -1,5 +1,4 @@
 -- `basis::basis_three` meets its contract. Assumes nothing.
-use borrow.Author.Rules.{rules}
 use mathlib.Core.Path.{◌≡◌, ap, ◌∙◌}
 use mir.Syntax.{w64}
 use mir.Facts.{to_z-of_z}
@@ -21,10 +20,9 @@ matrixed-requires c = rw (back w64 c.toned-first.result c.toned-first.type_inv, 
 
 pub returns : goal.returns
 unfolding basis
-returns c = let recoloured : three_of c.recolour-t.result ≡ recolour c.args.s.base_transform (first_centre c.args.s.rh) (triple c.args.y c.args.cb c.args.cr) = c.recolour-t.ensures.0 ∙ rw (back w64 c.wide.result c.wide.type_inv, back w64 c.wide-2.result c.wide-2.type_inv, back w64 c.wide-3.result c.wide-3.type_inv, back w64 c.first_centre.result c.first_centre.type_inv, c.wide.ensures.0, c.wide-2.ensures.0, c.wide-3.ensures.0, c.first_centre.ensures.0, to_z-of_z c.ranges.y, to_z-of_z c.ranges.cb, to_z-of_z c.ranges.cr) in
-    (
-      c.matrixed.ensures.0
-          ∙ rw (back w64 c.toned-first.result c.toned-first.type_inv, back w64 c.toned-second.result c.toned-second.type_inv, back w64 c.toned-third.result c.toned-third.type_inv, c.toned-first.ensures.0, c.toned-second.ensures.0, c.toned-third.ensures.0, back w64 c.recolour-t.result.first c.struct_told-1.given.0.1, back w64 c.recolour-t.result.second c.struct_told-1.given.1.0.1, back w64 c.recolour-t.result.third c.struct_told-1.given.1.1.0.1)
-          (ap (step_three c.args.s) (two_steps c.args.s c.args.table.now (triple c.args.y c.args.cb c.args.cr) c.recolour-t.result.first c.recolour-t.result.second c.recolour-t.result.third (recoloured))),
-      c.matrixed.ensures.1,
-    )
+returns c = let recoloured : three_of c.recolour-t.result ≡ recolour c.args.s.base_transform (first_centre c.args.s.rh) (triple c.args.y c.args.cb c.args.cr) = c.recolour-t.ensures.0 ∙ rw (back w64 c.wide.result c.wide.type_inv, back w64 c.wide-2.result c.wide-2.type_inv, back w64 c.wide-3.result c.wide-3.type_inv, back w64 c.first_centre.result c.first_centre.type_inv, c.wide.ensures.0, c.wide-2.ensures.0, c.wide-3.ensures.0, c.first_centre.ensures.0, to_z-of_z c.ranges.y, to_z-of_z c.ranges.cb, to_z-of_z c.ranges.cr) in (
+  c.matrixed.ensures.0
+      ∙ rw (back w64 c.toned-first.result c.toned-first.type_inv, back w64 c.toned-second.result c.toned-second.type_inv, back w64 c.toned-third.result c.toned-third.type_inv, c.toned-first.ensures.0, c.toned-second.ensures.0, c.toned-third.ensures.0, back w64 c.recolour-t.result.first c.struct_told-1.given.0.1, back w64 c.recolour-t.result.second c.struct_told-1.given.1.0.1, back w64 c.recolour-t.result.third c.struct_told-1.given.1.1.0.1)
+      (ap (step_three c.args.s) (two_steps c.args.s c.args.table.now (triple c.args.y c.args.cb c.args.cr) c.recolour-t.result.first c.recolour-t.result.second c.recolour-t.result.third (recoloured))),
+  c.matrixed.ensures.1,
+)

@@ -1,5 +1,4 @@
 -- `basis::first_centre` meets its contract. Assumes nothing.
-use borrow.Author.Rules.{rules}
 use mir.Syntax.{w64}
 use Rattle.laws.proofs.Integers.{back}
 use Rattle.merge_rules.specs.Steps.{first_centre}

@@ -1,5 +1,4 @@
 -- `basis::toned` meets its contract. Assumes nothing.
-use borrow.Author.Rules.{rules}
 use mathlib.Core.Path.{◌≡◌, ◌∙◌, ap}
 use native.Mathlib.Omega.{arith}
 use mir.Syntax.{w64}

@@ -1,6 +1,5 @@
 -- `choices::matrix_count` meets its contract. Assumes nothing.
 use Rattle.merge_rules.specs.Call.{matrix_count}
-use borrow.Author.Rules.{rules}
 use Rattle.choices.proofs.matrix_count.Goals as goal
 
 pub returns-in-On : goal.returns-in-On

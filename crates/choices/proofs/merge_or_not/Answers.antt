@@ -2,7 +2,6 @@
 use mathlib.Core.Path.{refl}
 use borrow.Author.Tests.{eq-eqb, ne_eqb}
 use Rattle.merge_rules.specs.Call.{merge_call}
-use borrow.Author.Rules.{rules}
 use Rattle.choices.proofs.merge_or_not.Goals as goal
 
 pub returns-then-number-ne0 : goal.returns-then-number-ne0

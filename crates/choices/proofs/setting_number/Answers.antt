@@ -1,9 +1,8 @@
 -- `choices::setting_number` meets its contract: the tests in their order. Assumes nothing.
 use mathlib.Core.Path.{sym, ◌∙◌}
-use borrow.Author.Tests.{not-true, not-false, eq-eqb, ne_eqb}
+use borrow.Author.Tests.{eq-eqb, ne_eqb}
 use Rattle.laws.specs.Index.{every}
 use Rattle.merge_rules.specs.Call.{setting_number}
-use borrow.Author.Rules.{rules}
 use Rattle.choices.proofs.setting_number.Goals as goal
 
 pub returns-then-not-named : goal.returns-then-not-named

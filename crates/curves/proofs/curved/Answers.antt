@@ -1,5 +1,4 @@
 -- `curves::curved` meets its contract: a curve at a time. Assumes nothing.
-use borrow.Author.Rules.{rules}
 use mathlib.Core.Path.{◌∙◌, ap}
 use native.Mathlib.Omega.{arith}
 use lib.IntN.{pos, nat_abs}
@@ -27,6 +26,6 @@ returns-in-Table c = rw (back w64 c.wide_count.result c.wide_count.type_inv, c.i
 pub returns-in-Srgb : goal.returns-in-Srgb
 unfolding curved
 returns-in-Srgb c = rw (back w64 c.wide_count-in-Srgb.result c.wide_count-in-Srgb.type_inv, c.in-Srgb.is) (
-      c.wide_count-in-Srgb.ensures ∙ ap pos (c.entry-in-Srgb.ensures ∙ ap (λ l. get_or l c.args.x 0) (c.requires.there.itself c.in-Srgb.is)),
-      omega (arith, ap nat_abs c.wide_count-in-Srgb.ensures),
-    )
+  c.wide_count-in-Srgb.ensures ∙ ap pos (c.entry-in-Srgb.ensures ∙ ap (λ l. get_or l c.args.x 0) (c.requires.there.itself c.in-Srgb.is)),
+  omega (arith, ap nat_abs c.wide_count-in-Srgb.ensures),
+)

@@ -1,13 +1,12 @@
 -- `curves::make_tones` meets its contract: behind x turns the first x tones are there. Assumes nothing.
 use borrow.Author.Rules.{rules}
 use mathlib.Core.Path.{◌≡◌, subst}
-use Prim.Native.Nat.{◌+◌, ◌-◌, ◌^◌, ◌≤◌}
+use Prim.Native.Nat.{◌+◌, ◌^◌}
 use native.Mathlib.Omega.{arith}
-use lib.ListN.{length}
 use lib.Pow.{pow_mono}
 use Rattle.rounding.proofs.Laws.{top_below}
 use Rattle.curves.specs.Code.{Tones}
-use Rattle.curves.proofs.Laws.{tones_none, tones_one}
+use Rattle.curves.proofs.Laws.{tones_one}
 use Rattle.curves.proofs.make_tones.Goals as goal
 
 pub overflow_cast-x : goal.overflow_cast-x

@@ -1,13 +1,8 @@
 -- What the loops of `curves::make_tones` keep, and what goes down.
-use borrow.Author.Rules.{rules}
-use mathlib.Core.Path.{◌≡◌, subst}
-use Prim.Native.Nat.{◌+◌, ◌-◌, ◌^◌, ◌≤◌}
-use native.Mathlib.Omega.{arith}
+use mathlib.Core.Path.{◌≡◌}
+use Prim.Native.Nat.{◌-◌, ◌≤◌}
 use lib.ListN.{length}
-use lib.Pow.{pow_mono}
-use Rattle.rounding.proofs.Laws.{top_below}
 use Rattle.curves.specs.Code.{Tones}
-use Rattle.curves.proofs.Laws.{tones_none, tones_one}
 use Rattle.curves.proofs.make_tones.Given as goal
 
 abbrev pub invariant-loop-x : goal.invariant-loop-x

@@ -1,5 +1,4 @@
 -- `curves::straight` meets its contract: the product fits 32 bits. Assumes nothing.
-use borrow.Author.Rules.{rules}
 use mathlib.Core.Path.{◌≡◌, ap, ◌∙◌}
 use Prim.Native.Nat.{◌*◌, ◌≤◌}
 use native.Mathlib.Omega.{arith}
@@ -29,6 +28,6 @@ nearest-requires c = rw (product-read c) (omega (arith, product_small c), omega 
 pub returns : goal.returns
 unfolding straight
 returns c = rw (back w64 c.nearest.result c.nearest.type_inv) (
-      c.nearest.ensures.0 ∙ ap (λ z. nearest z c.top_of-2.result) (product-read c.before ∙ ap (λ t. pos (c.args.x * t)) c.top_of.ensures.0) ∙ ap (nearest _) c.top_of-2.ensures.0,
-      omega (arith, rw (product-read c.before) at c.nearest.ensures.1, product_small c.before),
-    )
+  c.nearest.ensures.0 ∙ ap (λ z. nearest z c.top_of-2.result) (product-read c.before ∙ ap (λ t. pos (c.args.x * t)) c.top_of.ensures.0) ∙ ap (nearest _) c.top_of-2.ensures.0,
+  omega (arith, rw (product-read c.before) at c.nearest.ensures.1, product_small c.before),
+)

@@ -1,5 +1,4 @@
 -- `fills::fill` meets its contract. Assumes nothing.
-use borrow.Author.Rules.{rules}
 use Rattle.fills.proofs.Tones.{table_other, lent_there}
 use Rattle.fills.proofs.fill.Goals as goal
 

@@ -1,5 +1,4 @@
 -- `fills::fill_by` meets its contract: one component or three. Assumes nothing.
-use borrow.Author.Rules.{rules}
 use mathlib.Core.Logic.{⊎_elim}
 use Rattle.merge_rules.proofs.Components.{one_or_three_lem}
 use Rattle.fills.proofs.fill_by.Goals as goal

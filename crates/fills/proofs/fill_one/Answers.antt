@@ -1,8 +1,8 @@
 -- `fills::fill_one` meets its contract. Assumes nothing.
 use mathlib.Core.Path.{ap}
-use Prim.Native.Nat.{◌-◌, ◌*◌}
+use Prim.Native.Nat.{◌*◌}
 use native.Mathlib.Omega.{arith}
-use Rattle.fills.proofs.Filling.{Filling, filling_start, filling_long, filling_one, filling_end}
+use Rattle.fills.proofs.Filling.{filling_start, filling_one, filling_end}
 use Rattle.fills.proofs.fill_one.Goals as goal
 
 pub loop-p-init : goal.loop-p-init

@@ -1,8 +1,6 @@
 -- What the loops of `fills::fill_one` keep, and what goes down.
-use mathlib.Core.Path.{ap}
-use Prim.Native.Nat.{◌-◌, ◌*◌}
-use native.Mathlib.Omega.{arith}
-use Rattle.fills.proofs.Filling.{Filling, filling_start, filling_long, filling_one, filling_end}
+use Prim.Native.Nat.{◌-◌}
+use Rattle.fills.proofs.Filling.{Filling}
 use Rattle.fills.proofs.fill_one.Given as goal
 
 abbrev pub invariant-loop-p : goal.invariant-loop-p

@@ -1,9 +1,9 @@
 -- `fills::fill_three` meets its contract. Assumes nothing.
 use mathlib.Core.Path.{ap}
-use Prim.Native.Nat.{◌-◌, ◌*◌, ◌≤◌}
+use Prim.Native.Nat.{◌*◌, ◌≤◌}
 use native.Mathlib.Omega.{arith}
 use lib.ListN.{length, length-set}
-use Rattle.fills.proofs.Filling.{Filling, filling_start, filling_long, filling_three, filling_end}
+use Rattle.fills.proofs.Filling.{filling_start, filling_three, filling_end}
 use Rattle.fills.proofs.fill_three.Goals as goal
 
 pub loop-p-init : goal.loop-p-init

@@ -1,9 +1,6 @@
 -- What the loops of `fills::fill_three` keep, and what goes down.
-use mathlib.Core.Path.{ap}
-use Prim.Native.Nat.{◌-◌, ◌*◌, ◌≤◌}
-use native.Mathlib.Omega.{arith}
-use lib.ListN.{length, length-set}
-use Rattle.fills.proofs.Filling.{Filling, filling_start, filling_long, filling_three, filling_end}
+use Prim.Native.Nat.{◌-◌}
+use Rattle.fills.proofs.Filling.{Filling}
 use Rattle.fills.proofs.fill_three.Given as goal
 
 abbrev pub invariant-loop-p : goal.invariant-loop-p

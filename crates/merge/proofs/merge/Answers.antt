@@ -1,5 +1,4 @@
 -- `merge::merge` meets its contract. Assumes nothing.
-use borrow.Author.Rules.{rules}
 use Rattle.answers.proofs.Laws.{meets_given, meets_refused}
 use Rattle.merge.proofs.merge.Goals as goal
 

@@ -1,6 +1,4 @@
 -- `merge::tested` meets its contract: one law of the rules' order at each return. Assumes nothing.
-use borrow.Author.Rules.{rules}
-use borrow.Author.Tests.{not-true, not-false}
 use mathlib.Core.Path.{◌≡◌, refl, sym, ap, ◌∙◌}
 use mathlib.Core.Bool.{true}
 use native.Mathlib.Omega.{arith}
@@ -9,7 +7,7 @@ use Rattle.laws.specs.First.{first_fail}
 use Rattle.merge.proofs.Testing.{tests_refused, tests_passed}
 use Rattle.merge_rules.specs.Near.{top}
 use Rattle.merge_rules.specs.Settings.{in_ranges, plain, srgb_allowed, lengths_right, entry_right}
-use Rattle.settings.specs.Code.{Ranged, Passed}
+use Rattle.settings.specs.Code.{Ranged}
 use Rattle.settings.proofs.Laws.{ranged, passed, count_small}
 use Rattle.merge_laws.proofs.Order.{no_range, not_plain, no_srgb, no_lengths, too_large, no_room, all_right}
 use Rattle.merge.proofs.tested.Goals as goal

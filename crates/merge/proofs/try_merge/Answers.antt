@@ -1,5 +1,4 @@
 -- `merge::try_merge` meets its contract: the tests' own promise, and the picture behind them. Assumes nothing.
-use borrow.Author.Rules.{rules}
 use Rattle.merge_rules.specs.Picture.{merge}
 use Rattle.merge_laws.proofs.Order.{picture_long}
 use Rattle.merge.proofs.Testing.{tried_tests, tried_result}

@@ -1,5 +1,4 @@
 -- `pixel::added` meets its contract: the sum and the difference fit. Assumes nothing.
-use borrow.Author.Rules.{rules}
 use mathlib.Core.Path.{◌≡◌, ap, ◌∙◌}
 use mir.Syntax.{w64}
 use mir.Facts.{to_z-of_z}

@@ -1,11 +1,10 @@
 -- `pixel::residual_three` meets its contract. Assumes nothing.
-use borrow.Author.Rules.{rules}
 use mathlib.Core.Path.{◌∙◌}
 use mir.Syntax.{w64}
 use mir.Facts.{to_z-of_z}
 use Rattle.laws.proofs.Integers.{back}
 use Rattle.merge_rules.specs.Pixels.{each}
-use Rattle.merge_rules.specs.Steps.{recolour, step_four}
+use Rattle.merge_rules.specs.Steps.{step_four}
 use Rattle.pixel.proofs.residual_three.Goals as goal
 
 pub returns : goal.returns

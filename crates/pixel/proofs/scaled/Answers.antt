@@ -1,5 +1,4 @@
 -- `pixel::scaled` meets its contract: sixteenths, rounded. Assumes nothing.
-use borrow.Author.Rules.{rules}
 use mathlib.Core.Path.{◌≡◌, ap, ◌∙◌}
 use native.Mathlib.Omega.{arith}
 use mir.Syntax.{w64}

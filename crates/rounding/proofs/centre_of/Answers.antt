@@ -1,5 +1,4 @@
 -- `rounding::centre_of` meets its contract. Assumes nothing.
-use borrow.Author.Rules.{rules}
 use mathlib.Core.Path.{◌≡◌, refl, ap, ◌∙◌}
 use Prim.Native.Nat.{◌+◌, ◌^◌}
 use lib.IntN.{pos}

@@ -11,13 +11,10 @@ use mir.Val.{Fits, SFits, to_z, of_z}
 use mir.Facts.{to_z-of_z, to_z_pos}
 use mir.ValLaws.{sfits_le}
 use Rattle.laws.proofs.Integers.{flip, floor_neg, floor_pos}
-use borrow.Author.Rules.{rules}
 use Rattle.rounding.proofs.floor_div.Goals as goal
 
 m-read : (m : ℕ) → Fits w32 m → to_z w64 m ≡ pos m
 m-read m h = to_z_pos w64 (omega arith)
-
-
 
 module _ (c : goal.Then-z-lt0) where
   z : ℤ

@@ -1,5 +1,4 @@
 -- `rounding::nearest` meets its contract: half of m is added, which fits, and the quotient taken downward. Assumes nothing.
-use borrow.Author.Rules.{rules}
 use mathlib.Core.Path.{◌≡◌, refl, sym, ◌∙◌}
 use Prim.Native.Nat.{◌/◌}
 use native.Mathlib.Omega.{arith}

@@ -1,5 +1,4 @@
 -- `rounding::power` meets its contract: a one moved up. Assumes nothing.
-use borrow.Author.Rules.{rules}
 use Rattle.rounding.proofs.Laws.{power_moved}
 use Rattle.rounding.proofs.power.Goals as goal
 

@@ -1,14 +1,11 @@
 -- `settings::first_large` meets its contract: no entry before i is too large. Assumes nothing.
-use borrow.Author.Rules.{rules}
 use borrow.Author.Tests.{le-leb, lt-leb}
 use mathlib.Core.Path.{◌≡◌, sym}
 use mathlib.Core.Bool.{true, false}
 use mathlib.Core.List.{List}
-use Prim.Native.Nat.{ℕ, ◌-◌, ◌≤◌, ◌<◌}
+use Prim.Native.Nat.{ℕ, ◌≤◌, ◌<◌}
 use native.Mathlib.Omega.{arith}
 use lib.ListN.{length, get_or}
-use Rattle.laws.specs.First.{first_fail}
-use Rattle.laws.specs.declared.Found.TheVariants.{Nothing}
 use Rattle.laws.proofs.First.{first_start, first_more, first_found, first_end}
 use Rattle.merge_rules.specs.Settings.{entry_right}
 use Rattle.settings.proofs.first_large.Goals as goal

@@ -1,8 +1,7 @@
 -- `settings::in_ranges` meets its contract. Assumes nothing.
-use borrow.Author.Tests.{le-leb, lt-leb, not-true, not-false}
+use borrow.Author.Tests.{le-leb, lt-leb}
 use mathlib.Core.Path.{sym, ◌∙◌}
 use Rattle.laws.proofs.Tests.{every_pass, every_stop, every_last}
-use borrow.Author.Rules.{rules}
 use Rattle.merge_rules.specs.Settings.{in_ranges}
 use Rattle.settings.proofs.in_ranges.Goals as goal
 

@@ -6,7 +6,6 @@ use lib.Dec.{eqb}
 use Rattle.laws.proofs.Tests.{every_pass, every_stop, every_last}
 use Rattle.merge_rules.specs.Settings.{lengths_right}
 use Rattle.settings.proofs.Laws.{count_small}
-use borrow.Author.Rules.{rules}
 use Rattle.settings.proofs.lengths_right.Goals as goal
 
 pub overflow_mul-count : goal.overflow_mul-count

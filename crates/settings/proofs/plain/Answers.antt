@@ -3,7 +3,6 @@ use borrow.Author.Tests.{eq-eqb, ne_eqb}
 use mathlib.Core.Path.{sym, ap, ◌∙◌}
 use mathlib.Core.Bool.{not}
 use Rattle.laws.proofs.Tests.{every_pass, every_stop, every_last}
-use borrow.Author.Rules.{rules}
 use Rattle.merge_rules.specs.Settings.{plain}
 use Rattle.settings.proofs.plain.Goals as goal
 

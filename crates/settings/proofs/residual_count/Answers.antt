@@ -1,5 +1,4 @@
 -- `settings::residual_count` meets its contract. Assumes nothing.
-use borrow.Author.Rules.{rules}
 use Rattle.merge_rules.specs.Settings.{residual_count}
 use Rattle.settings.proofs.residual_count.Goals as goal
 

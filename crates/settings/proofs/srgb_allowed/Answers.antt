@@ -1,8 +1,7 @@
 -- `settings::srgb_allowed` meets its contract. Assumes nothing.
-use borrow.Author.Tests.{eq-eqb, ne_eqb, not-true, not-false}
+use borrow.Author.Tests.{eq-eqb, ne_eqb}
 use mathlib.Core.Path.{sym, ◌∙◌}
 use Rattle.laws.proofs.Tests.{every_pass, every_stop, every_last}
-use borrow.Author.Rules.{rules}
 use Rattle.merge_rules.specs.Settings.{srgb_allowed}
 use Rattle.settings.proofs.srgb_allowed.Goals as goal
 

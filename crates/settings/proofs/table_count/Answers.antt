@@ -1,5 +1,4 @@
 -- `settings::table_count` meets its contract. Assumes nothing.
-use borrow.Author.Rules.{rules}
 use Rattle.merge_rules.specs.Curves.{entries}
 use Rattle.settings.proofs.table_count.Goals as goal
 
