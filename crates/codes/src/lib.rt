@@ -173,24 +173,24 @@ pub fn look_up(counts: &[u8], values: &[u8], numbers: &[u16; 48], data: &[u8], c
     requires { Prepared (table counts.now values.now) numbers.now }
     ensures { coded_of «data».now result ≡ take_code (table counts.now values.now) (source_of «data».now c) }
 {
-    let mut cursor = c;
+    let mut here = c;
     let mut code = 0;
     let mut l = 0;
     while l < 16 {
-        let t = bits::reader::bit_at(data, cursor);
+        let t = bits::reader::bit_at(data, here);
         match t {
             Taken::Bit(b, next) => {
                 code = 2 * code + (b as usize);
-                cursor = next;
+                here = next;
             }
             Taken::Stopped(number, stop) => return Coded::Stopped(number, stop),
         }
         if code < number(numbers[3 * l + 1]) {
             let smallest = number(numbers[3 * l]);
             let position = number(numbers[3 * l + 2]);
-            return Coded::Value(values[position + code - smallest], cursor);
+            return Coded::Value(values[position + code - smallest], here);
         }
         l += 1;
     }
-    Coded::Stopped(14, cursor)
+    Coded::Stopped(14, here)
 }

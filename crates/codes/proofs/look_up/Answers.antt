@@ -32,24 +32,24 @@ overflow_add-result c = let small : c.loop-l.code < 32768 = here_small c.require
 
 pub overflow_sub-result : goal.overflow_sub-result
 unfolding taken_of
-overflow_sub-result c = let took : take_bit (source_of c.args.«data».now c.loop-l.cursor) ≡ got c.in-Bit.b (source_of c.args.«data».now c.in-Bit.next) = sym c.bit_at-t.ensures ∙ ap (taken_of _) c.in-Bit.is in
+overflow_sub-result c = let took : take_bit (source_of c.args.«data».now c.loop-l.here) ≡ got c.in-Bit.b (source_of c.args.«data».now c.in-Bit.next) = sym c.bit_at-t.ensures ∙ ap (taken_of _) c.in-Bit.is in
     let room : let code = 2 * c.loop-l.code + bin c.in-Bit.b in (c.number-smallest.result ≤ c.number-position.result + code) × (c.number-position.result + code - c.number-smallest.result < length c.args.values.now) = here_room c.requires c.loop-l.invariant c.loop-l-test.true (took) c.number.ensures.0 c.if-code-number.true c.number-smallest.ensures.0 c.number-position.ensures.0 in
     (room).0
 
 pub bounds-values-position : goal.bounds-values-position
 unfolding taken_of
-bounds-values-position c = let took : take_bit (source_of c.args.«data».now c.loop-l.cursor) ≡ got c.in-Bit.b (source_of c.args.«data».now c.in-Bit.next) = sym c.bit_at-t.ensures ∙ ap (taken_of _) c.in-Bit.is in
+bounds-values-position c = let took : take_bit (source_of c.args.«data».now c.loop-l.here) ≡ got c.in-Bit.b (source_of c.args.«data».now c.in-Bit.next) = sym c.bit_at-t.ensures ∙ ap (taken_of _) c.in-Bit.is in
     let room : let code = 2 * c.loop-l.code + bin c.in-Bit.b in (c.number-smallest.result ≤ c.number-position.result + code) × (c.number-position.result + code - c.number-smallest.result < length c.args.values.now) = here_room c.requires c.loop-l.invariant c.loop-l-test.true (took) c.number.ensures.0 c.if-code-number.true c.number-smallest.ensures.0 c.number-position.ensures.0 in
     (room).1
 
 pub returns-then-code-number : goal.returns-then-code-number
 unfolding coded_of taken_of
-returns-then-code-number c = let took : take_bit (source_of c.args.«data».now c.loop-l.cursor) ≡ got c.in-Bit.b (source_of c.args.«data».now c.in-Bit.next) = sym c.bit_at-t.ensures ∙ ap (taken_of _) c.in-Bit.is in
+returns-then-code-number c = let took : take_bit (source_of c.args.«data».now c.loop-l.here) ≡ got c.in-Bit.b (source_of c.args.«data».now c.in-Bit.next) = sym c.bit_at-t.ensures ∙ ap (taken_of _) c.in-Bit.is in
     here_found c.requires c.loop-l.invariant c.loop-l-test.true (took) c.number.ensures.0 c.if-code-number.true c.number-smallest.ensures.0 c.number-position.ensures.0
 
 pub loop-l-preserved : goal.loop-l-preserved
 unfolding taken_of
-loop-l-preserved c = let took : take_bit (source_of c.args.«data».now c.loop-l.cursor) ≡ got c.in-Bit.b (source_of c.args.«data».now c.in-Bit.next) = sym c.bit_at-t.ensures ∙ ap (taken_of _) c.in-Bit.is in
+loop-l-preserved c = let took : take_bit (source_of c.args.«data».now c.loop-l.here) ≡ got c.in-Bit.b (source_of c.args.«data».now c.in-Bit.next) = sym c.bit_at-t.ensures ∙ ap (taken_of _) c.in-Bit.is in
     here_on c.requires c.loop-l.invariant c.loop-l-test.true (took) c.number.ensures.0 c.if-code-number.false
 
 pub returns : goal.returns

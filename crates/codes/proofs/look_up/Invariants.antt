@@ -6,7 +6,7 @@ use Rattle.codes.proofs.Looking.{Here}
 use Rattle.codes.proofs.look_up.Given as goal
 
 abbrev pub invariant-loop-l : goal.invariant-loop-l
-invariant-loop-l l = Here (table l.counts l.values) l.numbers (source_of l.data l.initial.cursor) (source_of l.data l.cursor) l.code l.l
+invariant-loop-l l = Here (table l.counts l.values) l.numbers (source_of l.data l.initial.here) (source_of l.data l.here) l.code l.l
 
 abbrev pub decreases-loop-l : goal.decreases-loop-l
 decreases-loop-l l = 16 - l.l
