@@ -2,21 +2,16 @@
 use borrow.Author.Rules.{rules}
 use native.Mathlib.Omega.{arith}
 use mathlib.Core.Path.{◌≡◌, sym, ap, ◌∙◌}
-use mathlib.Core.List.{List}
-use Prim.Native.Nat.{ℕ, ◌+◌, ◌/◌, ◌%◌, ◌<◌}
-use lib.IntN.{ℤ}
+use Prim.Native.Nat.{◌+◌, ◌<◌}
 use lib.ListN.{length}
 use mir.Syntax.{w32, w64}
 use mir.Val.{to_z, of_z}
 use mir.Facts.{to_z-of_z}
 use Rattle.laws.proofs.Integers.{back}
 use Rattle.laws.proofs.Fill.{fill_start, fill_length, fill_turn}
-use Rattle.transform_rules.specs.Samples.{sample, block_samples}
+use Rattle.transform_rules.specs.Samples.{block_samples}
+use Rattle.kernel.proofs.write_samples.Invariants.{sample-of}
 use Rattle.kernel.proofs.write_samples.Goals as goal
-
--- the sample at index p of the block
-abbrev sample-of : List ℤ → ℤ → ℕ → ℤ
-sample-of s centre p = sample s centre (p % 8) (p / 8)
 
 pub loop-p-init : goal.loop-p-init
 loop-p-init c = (search rules, sym (fill_start c.args.destination.now c.args.at (sample-of c.args.s.now (to_z w64 (of_z w64 c.args.centre)))))

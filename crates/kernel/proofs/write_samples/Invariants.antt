@@ -7,6 +7,7 @@ use Rattle.laws.proofs.Fill.{filled}
 use Rattle.transform_rules.specs.Samples.{sample}
 use Rattle.kernel.proofs.write_samples.Given as goal
 
+-- the sample at index p of the block
 abbrev pub sample-of : List ℤ → ℤ → ℕ → ℤ
 sample-of s centre p = sample s centre (p % 8) (p / 8)
 

@@ -1,19 +1,14 @@
 -- `previews::fill_quarter` meets its contract: behind p numbers the first p are there. Assumes nothing.
 use borrow.Author.Rules.{rules}
 use mathlib.Core.Path.{◌≡◌, sym, ap, ◌∙◌}
-use mathlib.Core.List.{List}
-use Prim.Native.Nat.{ℕ, ◌-◌, ◌*◌, ◌/◌, ◌%◌, ◌^◌, ◌<◌}
+use Prim.Native.Nat.{◌/◌, ◌%◌, ◌<◌}
 use native.Mathlib.Omega.{arith}
 use lib.ListN.{length}
-use Rattle.laws.specs.Apart.{apart_rounded}
 use Rattle.laws.proofs.Fill.{front_start, front_length, front_turn, front_end}
-use Rattle.previews.specs.Code.{along, quarter}
+use Rattle.previews.specs.Code.{quarter}
 use Rattle.previews.proofs.Weights.{along_small}
+use Rattle.previews.proofs.fill_quarter.Invariants.{owed-of}
 use Rattle.previews.proofs.fill_quarter.Goals as goal
-
--- the number at index p of the block
-abbrev owed-of : ℕ → List ℕ → ℕ → ℕ
-owed-of d reaches p = apart_rounded d ((d - 1) * along reaches (p / 4) (p % 4)) (2 ^ 28)
 
 pub loop-p-init : goal.loop-p-init
 loop-p-init c = (search rules, sym (front_start c.args.owed.now (owed-of c.args.d c.args.reaches.now)))

@@ -7,6 +7,7 @@ use Rattle.laws.proofs.Fill.{front}
 use Rattle.previews.specs.Code.{along}
 use Rattle.previews.proofs.fill_quarter.Given as goal
 
+-- the number at index p of the block
 abbrev pub owed-of : ℕ → List ℕ → ℕ → ℕ
 owed-of d reaches p = apart_rounded d ((d - 1) * along reaches (p / 4) (p % 4)) (2 ^ 28)
 

@@ -1,17 +1,13 @@
 -- `previews::fill_reaches` meets its contract: behind p entries the first p are there. Assumes nothing.
 use borrow.Author.Rules.{rules}
 use mathlib.Core.Path.{◌≡◌, sym, ap, ◌∙◌}
-use mathlib.Core.List.{List}
-use Prim.Native.Nat.{ℕ, ◌/◌, ◌%◌, ◌<◌}
+use Prim.Native.Nat.{◌<◌}
 use native.Mathlib.Omega.{arith}
 use lib.ListN.{length}
 use Rattle.laws.proofs.Fill.{front_start, front_length, front_turn, front_end}
-use Rattle.previews.specs.Code.{along, reach_table}
+use Rattle.previews.specs.Code.{reach_table}
+use Rattle.previews.proofs.fill_reaches.Invariants.{reach_of}
 use Rattle.previews.proofs.fill_reaches.Goals as goal
-
--- the entry at index p of the table
-abbrev reach_of : List ℕ → ℕ → ℕ
-reach_of rows p = along rows (p / 8) (p % 8)
 
 pub loop-p-init : goal.loop-p-init
 loop-p-init c = (search rules, sym (front_start c.args.reaches.now (reach_of c.args.rows.now)))

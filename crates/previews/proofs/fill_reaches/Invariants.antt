@@ -6,6 +6,7 @@ use Rattle.laws.proofs.Fill.{front}
 use Rattle.previews.specs.Code.{along}
 use Rattle.previews.proofs.fill_reaches.Given as goal
 
+-- the entry at index p of the table
 abbrev pub reach_of : List ℕ → ℕ → ℕ
 reach_of rows p = along rows (p / 8) (p % 8)
 

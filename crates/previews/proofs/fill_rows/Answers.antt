@@ -10,11 +10,8 @@ use Rattle.transform_rules.specs.Zigzag.{zigzag_at, zigzag_order}
 use Rattle.transform_rules.proofs.Lengths.{zigzag_small}
 use Rattle.previews.specs.Code.{row_table}
 use Rattle.previews.proofs.Tables.{order_at, order_long}
+use Rattle.previews.proofs.fill_rows.Invariants.{row_of}
 use Rattle.previews.proofs.fill_rows.Goals as goal
-
--- the quantiser at place p of the rows
-abbrev row_of : List ℕ → ℕ → ℕ
-row_of quantisers p = get_or quantisers (zigzag_at p) 0
 
 pub loop-p-init : goal.loop-p-init
 loop-p-init c = (search rules, sym (front_start c.args.rows.now (row_of c.args.quantisers.now)))

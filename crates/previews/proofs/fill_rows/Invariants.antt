@@ -7,6 +7,7 @@ use Rattle.laws.proofs.Fill.{front}
 use Rattle.transform_rules.specs.Zigzag.{zigzag_at}
 use Rattle.previews.proofs.fill_rows.Given as goal
 
+-- the quantiser at place p of the rows
 abbrev pub row_of : List ℕ → ℕ → ℕ
 row_of quantisers p = get_or quantisers (zigzag_at p) 0
 

@@ -1,18 +1,14 @@
 -- `previews::write_owed` meets its contract: behind p numbers the destination holds p of the block's. Assumes nothing.
 use borrow.Author.Rules.{rules}
 use mathlib.Core.Path.{◌≡◌, ap, sym, ◌∙◌}
-use mathlib.Core.List.{List}
-use Prim.Native.Nat.{ℕ, ◌+◌, ◌*◌, ◌/◌, ◌%◌, ◌<◌}
+use Prim.Native.Nat.{◌/◌, ◌%◌, ◌<◌}
 use native.Mathlib.Omega.{arith}
-use lib.ListN.{length, get_or}
+use lib.ListN.{length}
 use Rattle.laws.proofs.Fill.{front_start, front_length, front_turn}
-use Rattle.previews.specs.Code.{fold, unfolded}
+use Rattle.previews.specs.Code.{unfolded}
 use Rattle.previews.proofs.Tables.{fold_small}
+use Rattle.previews.proofs.write_owed.Invariants.{place_of}
 use Rattle.previews.proofs.write_owed.Goals as goal
-
--- the number at place p of the block
-abbrev place_of : List ℕ → ℕ → ℕ
-place_of owed p = get_or owed (fold (p / 8) * 4 + fold (p % 8)) 0
 
 pub loop-p-init : goal.loop-p-init
 loop-p-init c = (search rules, sym (front_start c.args.destination.now (place_of c.args.owed.now)))

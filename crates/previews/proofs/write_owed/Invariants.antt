@@ -7,6 +7,7 @@ use Rattle.laws.proofs.Fill.{front}
 use Rattle.previews.specs.Code.{fold}
 use Rattle.previews.proofs.write_owed.Given as goal
 
+-- the number at place p of the block
 abbrev pub place_of : List ℕ → ℕ → ℕ
 place_of owed p = get_or owed (fold (p / 8) * 4 + fold (p % 8)) 0
 

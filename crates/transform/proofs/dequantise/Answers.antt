@@ -3,20 +3,17 @@ use borrow.Author.Rules.{rules}
 use native.Mathlib.Omega.{arith}
 use mathlib.Core.Path.{◌≡◌, sym, ap, ◌∙◌}
 use mathlib.Core.List.{List}
-use Prim.Native.Nat.{ℕ, ◌+◌, ◌*◌, ◌<◌}
-use lib.IntN.{ℤ, pos}
+use Prim.Native.Nat.{ℕ, ◌<◌}
 use lib.ListN.{length, get_or}
 use mir.Syntax.{w32, w64}
 use Rattle.laws.proofs.Integers.{back}
 use Rattle.laws.proofs.Fill.{front_start, front_length, front_turn, front_end}
 use Rattle.transform_rules.specs.Zigzag.{zigzag_at, zigzag_order}
-use Rattle.transform_rules.specs.Picture.{times_quantiser, dequantised}
+use Rattle.transform_rules.specs.Picture.{dequantised}
 use Rattle.transform_rules.proofs.Lengths.{zigzag_small}
 use Rattle.transform.proofs.Tables.{order_long, order_at}
+use Rattle.transform.proofs.dequantise.Invariants.{product-of}
 use Rattle.transform.proofs.dequantise.Goals as goal
-
-abbrev product-of : List ℤ → List ℕ → ℕ → ℕ → ℤ
-product-of values quantisers block p = times_quantiser (get_or values (block * 64 + zigzag_at p) (pos 0)) (get_or quantisers (zigzag_at p) 0)
 
 pub loop-p-init : goal.loop-p-init
 loop-p-init c = (search rules, sym (front_start c.args.s.now (product-of c.args.values.now c.args.quantisers.now c.args.block)))

@@ -2,25 +2,17 @@
 use borrow.Author.Rules.{rules}
 use native.Mathlib.Omega.{arith}
 use mathlib.Core.Path.{◌≡◌, sym, ap, ◌∙◌}
-use mathlib.Core.List.{List}
-use Prim.Native.Nat.{ℕ, ◌≤◌}
-use lib.IntN.{ℤ, nat_abs}
+use Prim.Native.Nat.{◌≤◌}
+use lib.IntN.{nat_abs}
 use lib.ListN.{length}
 use mir.Syntax.{w64}
 use mir.Val.{to_z, of_z}
 use Rattle.laws.proofs.Integers.{back}
 use Rattle.laws.proofs.Fill.{joined_start, joined_length, joined_turn}
-use Rattle.transform_rules.specs.Samples.{block_samples}
-use Rattle.transform_rules.specs.Picture.{dequantised, picture}
-use Rattle.transform_rules.proofs.Lengths.{block_length}
+use Rattle.transform_rules.specs.Picture.{picture}
 use Rattle.transform.proofs.Tables.{centre_small}
+use Rattle.transform.proofs.transform_picture.Invariants.{samples-of, each_long}
 use Rattle.transform.proofs.transform_picture.Goals as goal
-
-abbrev samples-of : List ℤ → List ℕ → ℤ → ℕ → List ℤ
-samples-of values quantisers middle block = block_samples (dequantised values quantisers block) middle
-
-each_long : (values : List ℤ) (quantisers : List ℕ) (middle : ℤ) (block : ℕ) → length (samples-of values quantisers middle block) ≡ 64
-each_long values quantisers middle block = block_length (dequantised values quantisers block) middle
 
 pub loop-block-init : goal.loop-block-init
 loop-block-init c = (search rules, sym (joined_start c.args.destination.now 64 (samples-of c.args.values.now c.args.quantisers.now (to_z w64 (of_z w64 c.centre-c.result))) (each_long c.args.values.now c.args.quantisers.now _)))
