@@ -33,12 +33,7 @@ pub fn xt_box_bytes(
 }
 
 // C1, C4: the listing of a file's packets as text.
-pub fn xt_list_packets(
-    file: &[u8],
-    text: &mut [u8],
-    place: &mut u64,
-    second: &mut u64,
-) -> u32
+pub fn xt_list_packets(file: &[u8], text: &mut [u8], place: &mut u64, second: &mut u64) -> u32
     ensures { Meets 0 (list_packets file.now (length text.old))
         text.old text.new (record { number = result; place = place.new; second = second.new }) }
 {

@@ -27,14 +27,7 @@ pub extern "C" fn xt_box_bytes(
     ensures { Meets 0 (box_bytes file.now kind instance (length destination.old))
         destination.old destination.new (record { number = result; place = place.new; second = second.new }) }
 {
-    reader_c::xt_box_bytes(
-        file,
-        kind,
-        instance,
-        destination,
-        place,
-        second,
-    )
+    reader_c::xt_box_bytes(file, kind, instance, destination, place, second)
 }
 
 // C1, C4: the listing of a file's packets as text.
@@ -48,12 +41,7 @@ pub extern "C" fn xt_list_packets(
     ensures { Meets 0 (list_packets file.now (length text.old))
         text.old text.new (record { number = result; place = place.new; second = second.new }) }
 {
-    reader_c::xt_list_packets(
-        file,
-        text,
-        place,
-        second,
-    )
+    reader_c::xt_list_packets(file, text, place, second)
 }
 
 // C1, C4: a DC plane read, level plane-1 values to level plane.
@@ -70,15 +58,7 @@ pub extern "C" fn xt_read_dc_plane(
     ensures { Meets (pos 0) (read_dc plane blocks values.now «data».now (length destination.old))
         destination.old destination.new (record { number = result; place = place.new; second = second.new }) }
 {
-    reader_c::xt_read_dc_plane(
-        plane,
-        blocks,
-        data,
-        values,
-        destination,
-        place,
-        second,
-    )
+    reader_c::xt_read_dc_plane(plane, blocks, data, values, destination, place, second)
 }
 
 // C1, C4: a DC plane written.
@@ -94,14 +74,7 @@ pub extern "C" fn xt_write_dc_plane(
     ensures { Meets 0 (write_dc plane blocks values.now (length destination.old))
         destination.old destination.new (record { number = result; place = place.new; second = second.new }) }
 {
-    reader_c::xt_write_dc_plane(
-        plane,
-        blocks,
-        values,
-        destination,
-        place,
-        second,
-    )
+    reader_c::xt_write_dc_plane(plane, blocks, values, destination, place, second)
 }
 
 // C1, C4: dequantising and the inverse transform.
@@ -140,13 +113,7 @@ pub extern "C" fn xt_preview_owes(
 ) -> u32
     ensures { Meets 0 (preview_owes left quantisers.now (length destination.old)) destination.old destination.new (record { number = result; place = place.new; second = second.new }) }
 {
-    reader_c::xt_preview_owes(
-        left,
-        quantisers,
-        destination,
-        place,
-        second,
-    )
+    reader_c::xt_preview_owes(left, quantisers, destination, place, second)
 }
 
 // C1, C4: an AC plane read.

@@ -1,7 +1,5 @@
 -- What the loops of `bit_reader_cases::show` keep, and what goes down.
 use Prim.Native.Nat.{◌-◌, ◌≤◌}
-use native.Mathlib.Omega.{arith}
-use borrow.Author.Rules.{rules}
 use Rattle.bit_reader_cases.proofs.show.Given as goal
 
 abbrev pub invariant-loop-i : goal.invariant-loop-i

@@ -1,6 +1,5 @@
 -- What the loops of `c_vectors::run_transforms` keep, and what goes down.
 use Prim.Native.Nat.{◌≤◌, ◌-◌}
-use borrow.Author.Rules.{rules}
 use Rattle.c_vectors.proofs.run_transforms.Given as goal
 
 abbrev pub invariant-loop-i : goal.invariant-loop-i

@@ -1,5 +1,4 @@
 -- `c_vectors::weight` is safe. Assumes nothing.
-use borrow.Author.Rules.{rules}
 use native.Mathlib.Omega.{arith}
 use lib.IntN.{pos, ◌-ℤ◌}
 use mir.Syntax.{w16, w32}

@@ -1,5 +1,4 @@
 -- What the loops of `c_vectors::weights_at` keep, and what goes down.
-use borrow.Author.Rules.{rules}
 use mathlib.Core.Path.{◌≡◌}
 use Prim.Native.Nat.{◌-◌}
 use lib.ListN.{length}

@@ -1,6 +1,5 @@
 -- What the loops of `merge_vectors::run_all` keep, and what goes down.
 use Prim.Native.Nat.{◌≤◌, ◌-◌}
-use borrow.Author.Rules.{rules}
 use Rattle.merge_vectors.proofs.run_all.Given as goal
 
 abbrev pub invariant-loop-i : goal.invariant-loop-i

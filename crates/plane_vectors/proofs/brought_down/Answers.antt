@@ -6,7 +6,6 @@ use mir.Val.{to_z}
 use mir.Facts.{to_z_pos}
 use Rattle.laws.proofs.Integers.{fit, abs_sum, abs_neg}
 use native.Mathlib.Omega.{arith}
-use borrow.Author.Rules.{rules}
 use Rattle.plane_vectors.proofs.brought_down.Goals as goal
 
 pub overflow_sub-result : goal.overflow_sub-result

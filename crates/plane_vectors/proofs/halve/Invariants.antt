@@ -1,8 +1,7 @@
 -- What the loops of `plane_vectors::halve` keep, and what goes down.
-use mathlib.Core.Path.{◌≡◌, refl}
+use mathlib.Core.Path.{◌≡◌}
 use Prim.Native.Nat.{◌-◌}
 use lib.ListN.{length}
-use borrow.Author.Rules.{rules}
 use Rattle.plane_vectors.proofs.halve.Given as goal
 
 abbrev pub invariant-loop-i : goal.invariant-loop-i

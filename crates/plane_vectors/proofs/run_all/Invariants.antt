@@ -1,7 +1,5 @@
 -- What the loops of `plane_vectors::run_all` keep, and what goes down.
 use Prim.Native.Nat.{◌≤◌}
-use borrow.Author.Rules.{rules}
-use Rattle.test_rules.proofs.Steps.{next_run_less}
 use Rattle.plane_vectors.proofs.run_all.Given as goal
 
 abbrev pub invariant-loop-run : goal.invariant-loop-run

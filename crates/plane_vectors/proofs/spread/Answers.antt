@@ -1,8 +1,5 @@
 -- `plane_vectors::spread` is safe. Assumes nothing.
-use mathlib.Core.Path.{◌≡◌, refl}
-use Prim.Native.Nat.{◌-◌}
-use lib.ListN.{length}
-use borrow.Author.Rules.{rules}
+use mathlib.Core.Path.{refl}
 use Rattle.plane_vectors.proofs.spread.Goals as goal
 
 pub loop-i-init : goal.loop-i-init

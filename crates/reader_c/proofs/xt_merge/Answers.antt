@@ -1,6 +1,5 @@
 -- `reader_c::xt_merge` meets its promise: the setting is made of what the numbers name. Assumes nothing.
 use Rattle.merge_rules.specs.Call.{setting_of}
-use borrow.Author.Rules.{rules}
 use Rattle.reader_c.proofs.xt_merge.Goals as goal
 
 pub returns : goal.returns

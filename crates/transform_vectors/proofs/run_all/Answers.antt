@@ -1,6 +1,4 @@
 -- `transform_vectors::run_all` is safe and ends: each turn leaves a record less. Assumes nothing.
-use Prim.Native.Nat.{◌≤◌}
-use borrow.Author.Rules.{rules}
 use Rattle.test_rules.proofs.Steps.{next_run_less}
 use Rattle.transform_vectors.proofs.run_all.Goals as goal
 
