@@ -1,4 +1,4 @@
-/* A proved reader and writer for JPEG XT finish pictures: the calls of libreader_c.a (made by `rt staticlib reader_c`).
+/* A proved reader and writer for JPEG XT finish pictures: the calls of libreader_c.a (made by `tools/library target/staticlib`).
  * Letters with numbers, as C1, name the rules of docs/RULES.md.
  *
  * C1: every call ends on every input and checks its own input. It returns a number of the table below and writes a place and

@@ -1,8 +1,8 @@
 #!/usr/bin/env python3
-"""box_check: random files with boxes of both forms, fill, strangers, shuffles, repeats, gaps, damage and cuts; what target/bin/box_out and
-target/bin/listing write is held to a second reading of the rules (docs/RULES.md, W and P), written here. Prints how often each number was met.
+"""box_check: random files with boxes of both forms, fill, strangers, shuffles, repeats, gaps, damage and cuts; what crates/box_out/out/box_out and
+crates/listing/out/listing write is held to a second reading of the rules (docs/RULES.md, W and P), written here. Prints how often each number was met.
 A form is how many bytes of the stated length are the head of the box: 8, the length is LBox; 16, LBox is 1 and the length stands in eight bytes behind the type.
-Run `rt check box_out listing` first.  box_check.py [FILES] [SEED]"""
+Run `rt run` in crates/box_out and in crates/listing first.  box_check.py [FILES] [SEED]"""
 import collections, platform, random, struct, subprocess, sys
 
 # on a machine that is not x86-64 the programs run under Debian's qemu-user and libc6-amd64-cross
@@ -88,11 +88,11 @@ files, seed = (int(sys.argv[1]) if len(sys.argv) > 1 else 1000), (int(sys.argv[2
 r, met = random.Random(seed), collections.Counter()
 for k in range(files):
     d = made(r)
-    p = subprocess.run(RUN + ['target/bin/listing'], input=d, capture_output=True)
+    p = subprocess.run(RUN + ['crates/listing/out/listing'], input=d, capture_output=True)
     if p.stdout.decode() != listing(d): sys.exit(f'file {k}: listing differs: {d.hex()}')
     n, x = box(d, b'LPTS', 1)
     met[n] += 1
-    p = subprocess.run(RUN + ['target/bin/box_out', 'LPTS', '1'], input=d, capture_output=True)
+    p = subprocess.run(RUN + ['crates/box_out/out/box_out', 'LPTS', '1'], input=d, capture_output=True)
     want = (x, b'') if n == 0 else (b'', b'answer %d %d\n' % (n, x))
     if (p.stdout, p.stderr) != want: sys.exit(f'file {k}: box differs: {d.hex()}')
 print(f'{files} files agree; numbers met:', ' '.join(f'{n}: {met[n]}' for n in sorted(met)))

@@ -1,8 +1,8 @@
 #!/usr/bin/env python3
-"""box_cost: how long target/bin/box_out takes on hostile files of 20-byte packets, at two sizes.
+"""box_cost: how long crates/box_out/out/box_out takes on hostile files of 20-byte packets, at two sizes.
 
 Each file holds n packets of LPTS, 1 with no payload, so that a walk is as long as a file of its size allows; the orders and
-numbers are those that cost most. Prints seconds of CPU for each, and the answer. Run `rt check box_out` first."""
+numbers are those that cost most. Prints seconds of CPU for each, and the answer. Run `rt run` in crates/box_out first."""
 import random, resource, struct, subprocess, sys
 
 def picture(numbers):
@@ -34,7 +34,7 @@ CASES = [
 
 def seconds(file):
     before = resource.getrusage(resource.RUSAGE_CHILDREN).ru_utime
-    p = subprocess.run(['target/bin/box_out', 'LPTS', '1'], input=file, capture_output=True)
+    p = subprocess.run(['crates/box_out/out/box_out', 'LPTS', '1'], input=file, capture_output=True)
     return resource.getrusage(resource.RUSAGE_CHILDREN).ru_utime - before, (p.stderr.decode().strip() or f'{len(p.stdout)} bytes')
 
 for n in [int(a) for a in sys.argv[1:]] or [50000, 100000]:

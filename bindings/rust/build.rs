@@ -1,4 +1,4 @@
-// Links libreader_c.a: the one in the folder that AUHOWIPI_LIBRARY names, else target/staticlib's, which `rt staticlib reader_c` makes at the repository's root for x86-64.
+// Links libreader_c.a: the one in the folder that AUHOWIPI_LIBRARY names, else target/staticlib's, which `tools/library target/staticlib` makes at the repository's root for x86-64.
 use std::path::PathBuf;
 
 fn main() {
@@ -7,7 +7,7 @@ fn main() {
     let named = std::env::var("AUHOWIPI_LIBRARY").ok().map(PathBuf::from);
     let folder = named.clone().unwrap_or_else(|| here.join("../../target/staticlib"));
     if !folder.join("libreader_c.a").exists() {
-        panic!("there is no {}/libreader_c.a: run `rt staticlib reader_c` at the repository's root first", folder.display());
+        panic!("there is no {}/libreader_c.a: run `tools/library target/staticlib` at the repository's root first", folder.display());
     }
     if named.is_none() && std::env::var("CARGO_CFG_TARGET_ARCH").unwrap() != "x86_64" {
         panic!("target/staticlib's library is for x86-64 Linux: `tools/library FOLDER` makes one for this machine, and AUHOWIPI_LIBRARY names its folder");

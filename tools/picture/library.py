@@ -1,5 +1,5 @@
 """The calls of libreader_c.a from Python, through a shared library made of it: the one in the folder that AUHOWIPI_LIBRARY names (tools/library makes one for any machine), else
-target/staticlib's, which `rt staticlib reader_c` makes for x86-64."""
+target/staticlib's, which `tools/library target/staticlib` makes for x86-64."""
 import collections, ctypes, os, subprocess, tempfile
 
 ROOT = os.path.dirname(os.path.dirname(os.path.dirname(os.path.abspath(__file__))))
@@ -8,7 +8,7 @@ ARCHIVE = os.path.join(os.environ.get('AUHOWIPI_LIBRARY', os.path.join(ROOT, 'ta
 
 def load():
     if not os.path.exists(ARCHIVE):
-        raise SystemExit(f'there is no {ARCHIVE}: run `rt staticlib reader_c` first')
+        raise SystemExit(f'there is no {ARCHIVE}: run `tools/library target/staticlib` first')
     shared = os.path.join(tempfile.mkdtemp(), 'libreader_c.so')
     subprocess.run(['gcc', '-shared', '-o', shared, '-Wl,--whole-archive', ARCHIVE, '-Wl,--no-whole-archive'], check=True)
     return ctypes.CDLL(shared)

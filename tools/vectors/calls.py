@@ -6,7 +6,7 @@
                            and the lines that are expected: number, place, second place (0 in all of them), the whole destination (a transform's samples with 2^31 added)
 
 crates/c_vectors reads the cases on standard input and must write the lines:
-  python3 tools/vectors/calls.py crates/c_vectors/stdin crates/c_vectors/stdout && rt check c_vectors
+  python3 tools/vectors/calls.py crates/c_vectors/stdin crates/c_vectors/stdout && rt ci c_vectors
 """
 import sys
 import merge

@@ -5,7 +5,7 @@
                            second place, the whole destination
 
 crates/merge_vectors reads the cases on standard input and must write the lines:
-  python3 tools/vectors/merge.py crates/merge_vectors/stdin crates/merge_vectors/stdout && rt check merge_vectors
+  python3 tools/vectors/merge.py crates/merge_vectors/stdin crates/merge_vectors/stdout && rt ci merge_vectors
 """
 import os
 import random
