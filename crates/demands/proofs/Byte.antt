@@ -28,7 +28,7 @@ use Rattle.plane_rules.specs.Dc.{dc_block, dc_blocks, read_dc}
 use Rattle.plane_rules.specs.AcRead.{ac_block, cut, ac_blocks, read_ac}
 use Rattle.trips.proofs.Asked.{tidy, Seam, even, marked, unsaid, Alike, Within, First, also}
 use Rattle.trips.proofs.AskedPlanes.{Planes, PastPlane, SamePlane, block_law, block_first, dc_block_lem, first_blocks}
-use Rattle.demands.specs.Byte.{size, Refuses, WhichByte, Either, ByteShown, TellsWhichByte}
+use Rattle.demands.specs.Byte.{size, Refuses, WhichByte}
 
 -- ---- planes, over data that are cut and go on otherwise
 
@@ -267,7 +267,7 @@ module _ (plane blocks : ℕ) (values : List ℤ) (room : ℕ) where
       21 (inr (omega arith)) (eqb (length values) blocks) 0)
       20 (inr (omega arith)) (every (readable plane blocks)) 0
 
-  dc_which : WhichByte (λ bytes. read_dc plane blocks values bytes room)
+  pub dc_which : WhichByte (λ bytes. read_dc plane blocks values bytes room)
   unfolding read_dc
   dc_which = which (λ bytes. dc_blocks 0 values (start bytes)) dc_tests dc_front (λ f. dc_twice values)
 
@@ -296,44 +296,6 @@ module _ (plane blocks : ℕ) (values : List ℤ) (room : ℕ) where
         let t = need_given (good_table codes) 10 0 _ [] b.1 in
         ac_twice codes (let s = (good codes t.0).sixteen in omega arith) blocks values (eqb-true (length values) (63 * blocks) b.0)
 
-    ac_which : WhichByte (λ bytes. read_ac plane blocks codes values bytes room)
+    pub ac_which : WhichByte (λ bytes. read_ac plane blocks codes values bytes room)
     unfolding read_ac
     ac_which = which (λ bytes. ac_blocks codes 0 none (cut blocks values) (start bytes)) ac_tests ac_front ac_passed
-
--- ---- the law used
-
-module _ {reads : List ℕ → Verdict ℤ} (w : WhichByte reads) where
-  either_below : (bytes : List ℕ) (p q : ℕ) → Either reads bytes 13 17 p q → q < length bytes
-  either_below bytes p q (inl e) = w.below bytes 13 p q (omega arith) (omega arith) e
-  either_below bytes p q (inr e) = w.below bytes 17 p q (omega arith) (omega arith) e
-
-  either_carries : (bytes : List ℕ) (p q : ℕ) → Either reads bytes 13 17 p (q + 1) → get_or bytes (q + 1 - 1) 0 ≡ 255 → ⊥
-  either_carries bytes p q (inl e) = w.carries bytes 13 p (q + 1) (omega arith) (omega arith) e (omega arith)
-  either_carries bytes p q (inr e) = w.carries bytes 17 p (q + 1) (omega arith) (omega arith) e (omega arith)
-
-  either_asked : (bytes : List ℕ) (p q : ℕ) → Either reads bytes 13 17 p q → (r : ℕ) × Refuses reads (take q bytes) 12 r q
-  either_asked bytes p q (inl e) = w.asked bytes 13 p q (omega arith) (omega arith) e
-  either_asked bytes p q (inr e) = w.asked bytes 17 p q (omega arith) (omega arith) e
-
-  shown : ByteShown reads
-  shown = record {
-    missing = λ byte p q e. w.missing (byte ∷ []) p q e;
-    below = either_below;
-    marker = λ bytes p q e. let m = w.marker bytes p q e in (m.0, m.2);
-    carries = λ bytes p q h e. let z : q + 1 - 1 ≡ q = omega arith in either_carries bytes p q h (ap (λ (n : ℕ). get_or bytes n 0) z ∙ e);
-    asked = either_asked;
-    last = λ bytes p q e. w.last bytes (255 ∷ 255 ∷ []) 13 p q (omega arith) (omega arith) e;
-    lastly = λ bytes p q e. w.last bytes (255 ∷ 255 ∷ []) 17 p q (omega arith) (omega arith) e;
-  }
-
--- FF has its 00 with it, any other byte stands alone
-pub sizes : (size 255 ≡ 2) × (size 254 ≡ 1) × (size 0 ≡ 1)
-sizes = (refl, refl, refl)
-
-pub tells_which_byte : TellsWhichByte
-tells_which_byte = record {
-  dc = dc_which;
-  ac = λ plane blocks codes values room. ac_which plane blocks values room codes;
-  dc_shown = λ plane blocks values room. shown (dc_which plane blocks values room);
-  ac_shown = λ plane blocks codes values room. shown (ac_which plane blocks values room codes);
-}

@@ -20,3 +20,17 @@ pub mod Practice
 pub mod Forms
 pub mod Retired
 pub mod Written
+pub mod ByteShown
+pub mod PracticeShown
+pub mod FormsShown
+pub mod Handing
+pub mod PreviewPictures
+pub mod RetiredShown
+pub mod RetiredCalls
+pub mod RetiredOurs
+pub mod RetiredRow
+pub mod BlocksPlanes
+pub mod PreviewAll
+pub mod PreviewShown
+pub mod PreviewNear
+pub mod Writers

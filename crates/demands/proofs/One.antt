@@ -23,8 +23,7 @@ use Rattle.levels.specs.declared.Part.TheVariants.{Dc, Ac, Whole}
 use Rattle.bit_rules.specs.Source.{start}
 use Rattle.bit_rules.specs.Table.{Table, good_table}
 use Rattle.bit_rules.specs.Write.{place_of}
-use Rattle.plane_rules.specs.Plane.{readable, our_writer, writable}
-use Rattle.plane_rules.proofs.Ranges.{ranged}
+use Rattle.plane_rules.specs.Plane.{readable}
 use Rattle.plane_rules.specs.Dc.{dc_blocks, read_dc, dc_bytes, written_dc, write_dc}
 use Rattle.plane_rules.specs.AcRead.{cut, ac_blocks, read_ac}
 use Rattle.plane_rules.specs.AcWrite.{Token, code, raw, tokens, or_else, lacking, ac_bytes, written_ac, write_ac}
@@ -41,12 +40,13 @@ use Rattle.merge_rules.specs.Picture as merging
 use Rattle.merge_rules.specs.Picture.{merge, merge_tests}
 use Rattle.merge_laws.proofs.Order.{picture_long}
 use Rattle.merge_rules.specs.Call.{matrix_count, setting_number, merge_call}
-use Rattle.demands.specs.One.{Rows, row, rows, stands, ◌then◌, failing, needed, First, retired, FirstLacking, box_rows, packet_rows, list_rows, dc_read_rows, ac_read_rows, dc_write_rows, ac_write_rows, bad_quantiser, transform_rows, preview_rows, merge_rows, merge_call_rows, DemandOne}
+use Rattle.demands.specs.One.{Rows, row, rows, stands, ◌then◌, failing, needed, First, FirstLacking, box_rows, packet_rows, list_rows, dc_read_rows, ac_read_rows, dc_write_rows, ac_write_rows, bad_quantiser, transform_rows, preview_rows, merge_rows, merge_call_rows, DemandOne}
 use Rattle.demands.specs.Blocks.{one_dc, one_ac}
 use Rattle.demands.proofs.Rows.{Judged, need_judged, failing_judged, unless_judged, fitting_judged, first_index, index_first, NoZero, answered}
-use Rattle.demands.proofs.Blocks.{dc_stops_lem, stops_dc, dc_left, left_dc, ac_stops_lem, stops_ac, ac_left, left_ac}
+use Rattle.demands.proofs.BlocksPlanes.{dc_stops_lem, stops_dc, dc_left, left_dc, ac_stops_lem, stops_ac, ac_left, left_ac}
 use Rattle.demands.proofs.Stops.{dc_blocks_lem, ac_blocks_lem, closed_judged, sizes, cut_sizes, cut_length}
 use Rattle.demands.proofs.Walked.{box_judged}
+use Rattle.demands.proofs.RetiredRow.{retired_judged}
 
 -- "value out of range", "first index", both ways
 outside_first : (part : Part) (level : ℕ) (values : List ℤ) (i : ℕ) → first_outside part level values ≡ At i → First (length values) (inside part level values) i
@@ -120,15 +120,6 @@ unfolding list_packets list_rows
 list_judged file room = fitting_judged room (length (listing file)) (listing file) refl
 
 -- ---- writing planes
-
--- 28: of the planes that there are, the fourth is the one that our writer does not write
-retired_judged : {later : Rows} {room : ℕ} (plane blocks : ℕ) → every (readable plane blocks) ≡ true → (next : Verdict ℕ) → (writable our_writer plane ≡ true → Judged later room next)
-    → Judged (row 28 (retired plane) then later) room (need (writable our_writer plane) 28 0 next)
-retired_judged plane blocks e next =
-    let high : plane ≤ 4 = (ranged plane blocks e).high in
-    need_judged (retired plane) (leb plane 3) 28 0 next
-    (λ f. let above : 3 < plane = leb-false plane 3 f in (refl, omega arith))
-    (λ q h. let same : plane ≡ 4 = h.1 in (lt-leb plane 3 (omega arith), h.0))
 
 pub dc_write_judged : (plane blocks : ℕ) (values : List ℤ) (room : ℕ) → Judged (dc_write_rows plane blocks values room) room (write_dc plane blocks values room)
 unfolding written_dc dc_write_rows

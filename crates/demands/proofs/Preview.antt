@@ -32,7 +32,7 @@ use Rattle.transform_rules.proofs.Lengths.{picture_length, zigzag_below}
 use Rattle.preview_rules.specs.Owed.{weight, owed}
 use Rattle.demands.specs.Two.{sample_at}
 use Rattle.demands.specs.Three.{Both, Within, level_of}
-use Rattle.demands.specs.Preview.{whole, LaidOut, Previewed, Sound, SamplesOwe, PreviewsAreGiven, OwedByLargest, PicturesAreNear, OwedFalls, OwedIsReached}
+use Rattle.demands.specs.Preview.{whole, LaidOut, Previewed, Sound, SamplesOwe, PreviewsAreGiven, OwedByLargest, OwedFalls, OwedIsReached}
 use Rattle.demands.proofs.Three.{demand_three, can_be_met}
 use Rattle.demands.proofs.Values.{samples_are}
 
@@ -231,15 +231,6 @@ owed_by_largest left largest quantisers h y x hy hx =
     let e = 2 ^ left - 1 in
     let w : weight quantisers y x ≤ largest * (7 * 2 ^ 28) = le_trans (weight_small largest quantisers h y x) (mul-le-mul_left largest (plain_small y x hy hx)) in
     omega (arith, mul-le-mul_left e w, pow_pos left)
-
-pub pictures_are_near : PicturesAreNear
-pictures_are_near k j n values quantisers largest few below a small p h =
-    let place : p / 64 * 64 + (p % 64 / 8 * 8 + p % 64 % 8) ≡ p = omega arith in
-    let y : p % 64 / 8 < 8 = omega arith in
-    let x : p % 64 % 8 < 8 = omega arith in
-    le_trans
-    (rw place at (samples_owe k j n values quantisers _ _ (both_given k j n values quantisers few below a) (p / 64) (p % 64 / 8) (p % 64 % 8) (omega arith) y x))
-    (owed_by_largest (k - j) largest quantisers small (p % 64 / 8) (p % 64 % 8) y x)
 
 pub owed_falls : OwedFalls
 unfolding owed

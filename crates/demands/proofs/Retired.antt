@@ -1,27 +1,20 @@
 -- Level 4 is no longer written, and nothing else changes; what follows for calls. Assumes nothing.
-use mathlib.Core.Path.{◌≡◌, refl, sym, ap, subst, ◌∙◌}
+use mathlib.Core.Path.{◌≡◌, refl, sym, ◌∙◌}
 use mathlib.Core.Bool.{Bool, true, false}
-use mathlib.Core.List.{List}
-use mathlib.Core.Option.{some, none-ne-some, some-injective}
 use Prim.Native.Nat.{ℕ, ◌≤◌, ◌<◌}
 use native.Mathlib.Omega.{arith}
 use lib.Dec.{eqb, leb}
-use lib.IntN.{ℤ}
-use lib.ListN.{length}
-use borrow.Author.Tests.{eqb-true, eq-eqb, ne_eqb, leb-true, leb-false, le-leb, lt-leb}
+use borrow.Author.Tests.{eqb-true, eq-eqb, leb-true, leb-false, le-leb, lt-leb}
 use Rattle.laws.specs.Index.{every}
 use Rattle.laws.proofs.Choices.{true_false}
-use Rattle.answers.specs.Verdict.{Verdict, given, refused, refusal, need, Meets}
-use Rattle.answers.specs.declared.Answer.{Answer}
-use Rattle.plane_rules.specs.Plane.{readable, our_writer, the_rules, writable}
-use Rattle.plane_rules.specs.Dc.{written_dc, write_dc}
-use Rattle.plane_rules.specs.AcWrite.{written_ac, write_ac}
+use Rattle.answers.specs.Verdict.{Verdict, need}
+use Rattle.plane_rules.specs.Plane.{readable, our_writer, writable}
+use Rattle.plane_rules.specs.Dc.{written_dc}
+use Rattle.plane_rules.specs.AcWrite.{written_ac}
 use Rattle.trips.proofs.DcTrip.{dc_accepted}
 use Rattle.trips.proofs.AcTrip.{ac_accepted}
-use Rattle.demands.specs.Two.{Handed}
-use Rattle.demands.specs.Three.{Both, level_of, Provided, together, write_plane}
-use Rattle.demands.specs.Retired.{but_level_four, LevelFour, NotWritten, FourShown}
-use Rattle.demands.proofs.Two.{handed}
+use Rattle.demands.specs.Retired.{but_level_four, LevelFour}
+use Rattle.demands.proofs.RetiredOurs.{ours}
 
 -- 28 between 20 and the rest: for plane 4 alone, where 20 is not given
 one_more : (plane blocks : ℕ) (rest : Verdict ℕ)
@@ -40,11 +33,6 @@ one_more plane blocks rest = go (leb plane 3) (eqb plane 4) (leb blocks 1024) re
         let n : plane ≡ 4 → ⊥ = λ e. true_false (sym (eq-eqb plane 4 e) ∙ f) in
         rw (f, le-leb 1 plane (omega arith), lt-leb plane 4 (omega (arith, n)))
 
-ours : (j n : ℕ) (lent : Provided) (values : Both ℤ) → j ≤ 3
-    → write_plane j n lent values ≡ together (write_dc j n values.dc lent.dc_room) (write_ac j n lent.table values.ac lent.ac_room)
-unfolding write_plane
-ours j n lent values l = rw (le-leb j 3 l)
-
 pub level_four : LevelFour
 unfolding written_dc written_ac
 level_four = record {
@@ -54,50 +42,3 @@ level_four = record {
   ac_stored = ac_accepted;
   ours = ours;
 }
-
--- ---- what follows from the law
-
--- a call whose verdict is 28 at place 0
-not_written : {before after : List ℕ} {answer : Answer} (v : Verdict ℕ) → v ≡ refused (refusal 28 0) → Meets 0 v before after answer → NotWritten before after answer
-not_written {before} {after} {answer} v e m = let r = subst (λ (w : Verdict ℕ). Meets 0 w before after answer) e m in rw (r.answered, r.held) (record { number = refl; place = refl; second = refl; zeros = refl })
-
--- a call whose verdict is these values
-handed_by : {A : Type 0} {zero : A} {before after : List A} {answer : Answer} (v : Verdict A) (ys : List A) → v ≡ given ys → Meets zero v before after answer → Handed ys after answer
-handed_by {A} {zero} {before} {after} {answer} v ys e m = handed ys (subst (λ (w : Verdict A). Meets zero w before after answer) e m)
-
--- a plane that is accepted is accepted by both calls
-each_given : (v w : Verdict ℕ) (bytes : Both ℕ) → together v w ≡ some bytes → (v ≡ given bytes.dc) × (w ≡ given bytes.ac)
-each_given (given dc) (given ac) bytes e =
-    let same : record { dc = dc; ac = ac } ≡ bytes = some-injective _ bytes e in
-    (ap (λ (b : Both ℕ). given b.dc) same, ap (λ (b : Both ℕ). given b.ac) same)
-each_given (given dc) (refused r) bytes e = absurd (none-ne-some bytes e)
-each_given (refused r) w bytes e = absurd (none-ne-some bytes e)
-
-four : (blocks : ℕ) (rest : Verdict ℕ) → blocks ≤ 1024 → but_level_four 4 blocks rest ≡ refused (refusal 28 0)
-unfolding every
-four blocks rest few = rw (le-leb blocks 1024 few)
-
-other : (plane blocks : ℕ) (rest : Verdict ℕ) → (plane ≡ 4 → ⊥) → but_level_four plane blocks rest ≡ rest
-unfolding every
-other plane blocks rest n = rw (ne_eqb plane 4 n)
-
-shown : LevelFour → FourShown
-shown law = record {
-  dc_refused = λ blocks values before after answer few m. not_written _ (law.dc_written 4 blocks values (length before) ∙ four blocks _ few) m;
-  ac_refused = λ blocks codes values before after answer few m. not_written _ (law.ac_written 4 blocks codes values (length before) ∙ four blocks _ few) m;
-  dc_as_ruled = λ plane blocks values before after answer n m.
-      subst (λ (v : Verdict ℕ). Meets 0 v before after answer) (law.dc_written plane blocks values (length before) ∙ other plane blocks _ n) m;
-  ac_as_ruled = λ plane blocks codes values before after answer n m.
-      subst (λ (v : Verdict ℕ). Meets 0 v before after answer) (law.ac_written plane blocks codes values (length before) ∙ other plane blocks _ n) m;
-  dc_read = λ blocks room values bytes before after answer w fits m. handed_by _ values (law.dc_stored the_rules 4 blocks values room (length before) bytes w fits) m;
-  ac_read = λ blocks room codes values bytes before after answer w fits m. handed_by _ values (law.ac_stored the_rules 4 blocks codes values room (length before) bytes w fits) m;
-  ours = λ k n full lent demanded j low high own.
-      let e = each_given _ _ (demanded.plane j) (sym (law.ours j n (lent j) (level_of k full j) own) ∙ demanded.written j low high) in
-      record {
-        dc = λ before after answer l m. handed_by _ (demanded.plane j).dc (ap (write_dc j n (level_of k full j).dc) l ∙ e.0) m;
-        ac = λ before after answer l m. handed_by _ (demanded.plane j).ac (ap (write_ac j n (lent j).table (level_of k full j).ac) l ∙ e.1) m;
-      };
-}
-
-pub four_shown : FourShown
-four_shown = shown level_four

@@ -1,14 +1,11 @@
 -- Demand 3 holds, and its conditions can be met. Assumes nothing.
-use mathlib.Core.Path.{◌≡◌, refl, ap₂, ◌∙◌}
-use mathlib.Core.Bool.{Bool, true, false, cond}
+use mathlib.Core.Path.{◌≡◌, ap₂, ◌∙◌}
 use mathlib.Core.List.{List}
 use mathlib.Core.Option.{some}
 use Prim.Native.Nat.{ℕ, zero, suc, ◌-◌, ◌*◌, ◌≤◌, ◌<◌}
 use native.Mathlib.Omega.{arith}
-use lib.Dec.{leb}
 use lib.IntN.{ℤ}
 use lib.ListN.{length, length-map}
-use Rattle.plane_rules.specs.Plane.{our_writer, the_rules, writable}
 use Rattle.plane_rules.specs.Dc.{dc_bytes}
 use Rattle.plane_rules.specs.AcWrite.{ac_bytes}
 use Rattle.plane_rules.specs.Levels.{downward, toward_zero}
@@ -17,18 +14,11 @@ use Rattle.trips.proofs.DcTrip.{dc_halving, dc_written_lem, dc_read_lem}
 use Rattle.trips.proofs.AcTrip.{ac_halving, ac_written_lem, ac_read_lem}
 use Rattle.demands.specs.Three.{Both, Within, level_of, Provided, Enough, writer_of, write_plane, read_plane, Refined, DemandThree, CanBeMet}
 use Rattle.demands.proofs.Held.{every_code, every_good, every_held}
+use Rattle.demands.proofs.Writers.{theirs}
 
 module _ (k n : ℕ) (full : Both ℤ) (lent : ℕ → Provided) (few : k ≤ 4) (a : Within k n full) (enough : (j : ℕ) → 1 ≤ j → j ≤ k → Enough n (level_of k full j) (lent j)) where
   bytes : ℕ → Both ℕ
   bytes j = record { dc = dc_bytes (level_of k full j).dc; ac = ac_bytes n (lent j).table (level_of k full j).ac }
-
-  -- planes 1 to 3 are our writer's, and the rules write every plane
-  theirs : (j : ℕ) → writable (writer_of j) j ≡ true
-  theirs j = go (leb j 3) refl
-    where
-      go : (b : Bool) → leb j 3 ≡ b → writable (cond b our_writer the_rules) j ≡ true
-      go true e = e
-      go false e = refl
 
   written : (j : ℕ) → 1 ≤ j → j ≤ k → write_plane j n (lent j) (level_of k full j) ≡ some (bytes j)
   unfolding bytes level_of write_plane

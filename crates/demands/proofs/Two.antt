@@ -8,8 +8,7 @@ use native.Mathlib.Omega.{arith}
 use borrow.Author.Tests.{eqb-true, eq-eqb, leb-true, le-leb}
 use lib.Dec.{leb, eqb}
 use lib.IntN.{ℤ, pos}
-use lib.ListN.{length, drop}
-use lib.Seq.{take-append_seam}
+use lib.ListN.{length}
 use Rattle.box_rules.specs.Text.{listing, list_packets}
 use Rattle.laws.specs.Index.{every}
 use Rattle.laws.specs.First.{first_fail}
@@ -36,17 +35,13 @@ use Rattle.merge_rules.specs.Call.{matrix_count, merge_call}
 use Rattle.preview_rules.specs.Owed.{owed_block}
 use Rattle.preview_rules.specs.Call.{preview_owes}
 use Rattle.demands.specs.One.{Rows}
-use Rattle.demands.specs.Two.{Handed, Exactly, Listed, DcRefined, AcRefined, still_written, DcCoded, AcCoded, Sampled, Owing, Merged, MergeCalled, DemandTwo}
+use Rattle.demands.specs.Two.{Exactly, Listed, DcRefined, AcRefined, still_written, DcCoded, AcCoded, Sampled, Owing, Merged, MergeCalled, DemandTwo}
 use Rattle.demands.proofs.Rows.{Keeps, refuses, Judged, NoZero}
 use Rattle.demands.proofs.Walked.{box_judged}
 use Rattle.demands.proofs.One.{list_judged, list_zero, dc_read_judged, ac_read_judged, dc_write_judged, ac_write_judged, transform_judged, preview_judged, merge_judged, call_judged, call_is, lent_merge, lent_merge_lem, call_zero, box_zero, dc_read_zero, ac_read_zero, dc_write_zero, ac_write_zero, transform_zero, preview_zero, merge_zero}
+use Rattle.demands.proofs.Handing.{handed}
 
 -- ---- from a verdict to what was written
-
--- what a call handed out
-pub handed : {A : Type 0} {zero : A} {before after : List A} {answer : Answer} (ys : List A) → Meets zero (given ys) before after answer
-    → Handed ys after answer
-handed {before = before} ys m = (ap (λ (a : Answer). a.number) m.answered, rw (m.answered, m.held) (take-append_seam ys (drop (length ys) before)))
 
 by_row : {A : Type 0} {table : Rows} {room : ℕ} (r : Refusal) → Keeps {A = A} table room (refused r) → table r.number r.place r.second
 by_row r (refuses t) = t
