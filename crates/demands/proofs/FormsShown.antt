@@ -12,7 +12,8 @@ use Rattle.box_rules.specs.Layout.{Part, packed, two, four, eight, segment, head
 use Rattle.demands.specs.Cases.{result_of, lpts}
 use Rattle.demands.specs.Practice.{AnsweredAlike, practice_between, dots}
 use Rattle.demands.specs.Forms.{live_in_long_form, FormsShown}
-use Rattle.demands.proofs.PracticeShown.{still, one, another, practised, boxed}
+use Rattle.demands.proofs.PracticeShown.{one, another, practised, boxed}
+use Rattle.demands.proofs.PracticeStill.{still}
 use Rattle.demands.proofs.Forms.{either_form}
 
 -- ---- the pictures

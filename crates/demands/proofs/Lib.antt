@@ -34,3 +34,4 @@ pub mod PreviewAll
 pub mod PreviewShown
 pub mod PreviewNear
 pub mod Writers
+pub mod PracticeStill

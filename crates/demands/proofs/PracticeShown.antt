@@ -1,5 +1,5 @@
 -- Practice does not reach live: the list, and the same by the law. Assumes nothing.
-use mathlib.Core.Path.{◌≡◌, refl, sym, subst}
+use mathlib.Core.Path.{◌≡◌, refl, subst}
 use mathlib.Core.Logic.{inl, inr}
 use mathlib.Core.List.{List, [], ◌∷◌}
 use Prim.Native.Nat.{ℕ, ◌≤◌}
@@ -13,8 +13,9 @@ use Rattle.box_rules.specs.Box.{alike, agree, contents, total, numbered, joined_
 use Rattle.box_rules.specs.Order.{swap}
 use Rattle.box_rules.specs.Layout.{Part, packed, other, Boxed, Plain, two, four, segment, headed, inner, bytes_of, all_bytes, laid_out, AllSound, SameFor, empty, shared, there, exchanged, through}
 use Rattle.demands.specs.Cases.{result_of, lpts}
-use Rattle.demands.specs.Practice.{EndsWell, own, AnsweredAlike, practice, live, stranger_in_front, stranger_between, stranger_behind, practice_between, practice_wrapped, backward, elsewhere, lost, lost_beside, PracticeHolds, dots, Answers, StillLive, PracticeShown}
+use Rattle.demands.specs.Practice.{EndsWell, own, AnsweredAlike, practice, live, stranger_in_front, stranger_between, stranger_behind, practice_between, practice_wrapped, backward, elsewhere, lost, lost_beside, PracticeHolds, dots, StillLive, PracticeShown}
 use Rattle.demands.proofs.Practice.{practice_apart}
+use Rattle.demands.proofs.PracticeStill.{still}
 
 -- ---- the list
 
@@ -31,13 +32,6 @@ met : Meets 0 (box_bytes live lpts 1 6) dots (0x39 ∷ 0x2E ∷ 0x35 ∷ 0x38 �
 unfolding be16 be32 head_at ones barred tagged packet_at whole_at sized_at marked_at step_at steps_in steps_from begins walk ending packets_in packets is_mine mine
     numbers count least first_twice missing_from first_missing alike agree contents total numbered joined_from joined assembled assemble box_bytes
 met = (record { answered = refl; held = refl }, record { answered = refl; held = refl })
-
--- what a call on one file comes to, a call on another that is answered alike comes to
-pub still : (file file' : List ℕ) (number place : ℕ) (left : List ℕ) → Meets 0 (box_bytes file lpts 1 6) dots left (record { number = number; place = place; second = 0 })
-    → AnsweredAlike lpts 1 file file' → Answers file' number place left
-still file file' number place left m alike after answer m' =
-    let s = alike dots left after _ answer m m' in
-    (sym s.number, sym s.place, sym s.second, sym s.bytes)
 
 still_live : (file : List ℕ) → AnsweredAlike lpts 1 live file → StillLive file
 still_live file = still live file 0 4 _ met.0
