@@ -10,7 +10,7 @@ fn main() {
         panic!("there is no {}/libreader_c.a: run `tools/library target/staticlib` at the repository's root first", folder.display());
     }
     if named.is_none() && std::env::var("CARGO_CFG_TARGET_ARCH").unwrap() != "x86_64" {
-        panic!("target/staticlib's library is for x86-64 Linux: `tools/library FOLDER` makes one for this machine, and AUHOWIPI_LIBRARY names its folder");
+        panic!("target/staticlib's library is for x86-64 Linux: an emulator runs it on this machine");
     }
     println!("cargo:rustc-link-search=native={}", folder.display());
     println!("cargo:rustc-link-lib=static=reader_c");

@@ -1,4 +1,4 @@
-"""The calls of libreader_c.a from Python, through a shared library made of it: the one in the folder that AUHOWIPI_LIBRARY names (tools/library makes one for any machine), else
+"""The calls of libreader_c.a from Python, through a shared library made of it: the one in the folder that AUHOWIPI_LIBRARY names (tools/library makes it), else
 target/staticlib's, which `tools/library target/staticlib` makes for x86-64."""
 import collections, ctypes, os, subprocess, tempfile
 
