@@ -12,59 +12,64 @@ use Rattle.plane_rules.proofs.Ranges.{Ranged, ranged}
 use Rattle.planes.proofs.Closing.{closing}
 use native.Mathlib.Omega.{arith}
 use borrow.Author.Rules.{rules}
+use Rattle.ac_reader.proofs.try_read_ac.Goals.{Else-not-good_table, Else-not-readable}
 use Rattle.ac_reader.proofs.try_read_ac.Goals as goal
+
+-- the counts are good
+counts : (c : Else-not-readable) → every (readable c.args.plane c.args.blocks) ≡ true
+counts c = sym c.readable.ensures ∙ c.if-not-readable.false
+
+good : (c : Else-not-readable) → Ranged c.args.plane c.args.blocks
+good c = ranged c.args.plane c.args.blocks (counts c)
+
+-- so is the table
+tabled : (c : Else-not-good_table) → good_table (table c.args.counts.now c.args.codes.now) ≡ true
+tabled c = sym c.good_table.ensures ∙ c.if-not-good_table.false
 
 pub returns-then-not-readable : goal.returns-then-not-readable
 unfolding read_ac
 returns-then-not-readable c = tried_refused c.refuse.ensures (rw (sym c.readable.ensures ∙ c.if-not-readable.true))
 
 pub overflow_mul-count : goal.overflow_mul-count
-overflow_mul-count c = let counts : every (readable c.args.plane c.args.blocks) ≡ true = sym c.readable.ensures ∙ c.if-not-readable.false in
-    let good : Ranged c.args.plane c.args.blocks = ranged c.args.plane c.args.blocks (counts) in
-    let r = good in search rules
+overflow_mul-count c = let here = goal.at.overflow_mul-count c in
+    let r = good here.Else-not-readable in search rules
 
 pub returns-then-values-count : goal.returns-then-values-count
 unfolding read_ac
-returns-then-values-count c = let counts : every (readable c.args.plane c.args.blocks) ≡ true = sym c.readable.ensures ∙ c.if-not-readable.false in
-    tried_refused c.refuse-then-values-count.ensures (rw (counts, ne_eqb _ _ c.if-values-count.true))
+returns-then-values-count c = let here = goal.at.returns-then-values-count c in
+    tried_refused c.refuse-then-values-count.ensures (rw (counts here.Else-not-readable, ne_eqb _ _ c.if-values-count.true))
 
 pub returns-then-not-good_table : goal.returns-then-not-good_table
 unfolding read_ac
-returns-then-not-good_table c = let counts : every (readable c.args.plane c.args.blocks) ≡ true = sym c.readable.ensures ∙ c.if-not-readable.false in
+returns-then-not-good_table c = let here = goal.at.returns-then-not-good_table c in
     tried_refused c.refuse-then-not-good_table.ensures
-    (rw (counts, eq-eqb _ _ c.if-values-count.false, sym c.good_table.ensures ∙ c.if-not-good_table.true))
+    (rw (counts here.Else-not-readable, eq-eqb _ _ c.if-values-count.false, sym c.good_table.ensures ∙ c.if-not-good_table.true))
 
 pub overflow_sub-level : goal.overflow_sub-level
-overflow_sub-level c = let counts : every (readable c.args.plane c.args.blocks) ≡ true = sym c.readable.ensures ∙ c.if-not-readable.false in
-    let good : Ranged c.args.plane c.args.blocks = ranged c.args.plane c.args.blocks (counts) in
-    let r = good in omega arith
+overflow_sub-level c = let here = goal.at.overflow_sub-level c in
+    let r = good here.Else-not-readable in omega arith
 
 pub first_outside-requires : goal.first_outside-requires
-first_outside-requires c = let counts : every (readable c.args.plane c.args.blocks) ≡ true = sym c.readable.ensures ∙ c.if-not-readable.false in
-    let good : Ranged c.args.plane c.args.blocks = ranged c.args.plane c.args.blocks (counts) in
-    let r = good in omega arith
+first_outside-requires c = let here = goal.at.first_outside-requires c in
+    let r = good here.Else-not-readable in omega arith
 
 pub returns-in-At : goal.returns-in-At
 unfolding read_ac
-returns-in-At c = let counts : every (readable c.args.plane c.args.blocks) ≡ true = sym c.readable.ensures ∙ c.if-not-readable.false in
-    let tabled : good_table (table c.args.counts.now c.args.codes.now) ≡ true = sym c.good_table.ensures ∙ c.if-not-good_table.false in
+returns-in-At c = let here = goal.at.returns-in-At c in
     tried_refused c.refuse-in-At.ensures
-    (rw (counts, eq-eqb _ _ c.if-values-count.false, tabled, sym c.first_outside.ensures ∙ c.in-At.is))
+    (rw (counts here.Else-not-readable, eq-eqb _ _ c.if-values-count.false, tabled here.Else-not-good_table, sym c.first_outside.ensures ∙ c.in-At.is))
 
 pub returns-then-destination-count : goal.returns-then-destination-count
 unfolding read_ac
-returns-then-destination-count c = let counts : every (readable c.args.plane c.args.blocks) ≡ true = sym c.readable.ensures ∙ c.if-not-readable.false in
-    let tabled : good_table (table c.args.counts.now c.args.codes.now) ≡ true = sym c.good_table.ensures ∙ c.if-not-good_table.false in
+returns-then-destination-count c = let here = goal.at.returns-then-destination-count c in
     tried_refused c.refuse-then-destination-count.ensures
-    (rw (counts, eq-eqb _ _ c.if-values-count.false, tabled, sym c.first_outside.ensures ∙ c.in_default.is, lt-leb _ _ c.if-destination-count.true))
+    (rw (counts here.Else-not-readable, eq-eqb _ _ c.if-values-count.false, tabled here.Else-not-good_table, sym c.first_outside.ensures ∙ c.in_default.is, lt-leb _ _ c.if-destination-count.true))
 
 pub read_blocks-ran-requires : goal.read_blocks-ran-requires
-read_blocks-ran-requires c = let counts : every (readable c.args.plane c.args.blocks) ≡ true = sym c.readable.ensures ∙ c.if-not-readable.false in
-    let good : Ranged c.args.plane c.args.blocks = ranged c.args.plane c.args.blocks (counts) in
-    let tabled : good_table (table c.args.counts.now c.args.codes.now) ≡ true = sym c.good_table.ensures ∙ c.if-not-good_table.false in
-    let r = good in
+read_blocks-ran-requires c = let here = goal.at.read_blocks-ran-requires c in
+    let r = good here.Else-not-readable in
     record {
-      codes_value = tabled;
+      codes_value = (tabled here.Else-not-good_table);
       small = all_small _ _ _ (omega arith) (sym c.first_outside.ensures ∙ c.in_default.is);
       values_len = c.if-values-count.false;
       blocks_in_bounds = c.if-destination-count.false;
@@ -72,7 +77,6 @@ read_blocks-ran-requires c = let counts : every (readable c.args.plane c.args.bl
 
 pub returns : goal.returns
 unfolding read_ac
-returns c = let counts : every (readable c.args.plane c.args.blocks) ≡ true = sym c.readable.ensures ∙ c.if-not-readable.false in
-    let tabled : good_table (table c.args.counts.now c.args.codes.now) ≡ true = sym c.good_table.ensures ∙ c.if-not-good_table.false in
-    rw (counts, eq-eqb _ _ c.if-values-count.false, tabled, sym c.first_outside.ensures ∙ c.in_default.is, le-leb _ _ c.if-destination-count.false)
+returns c = let here = goal.at.returns c in
+    rw (counts here.Else-not-readable, eq-eqb _ _ c.if-values-count.false, tabled here.Else-not-good_table, sym c.first_outside.ensures ∙ c.in_default.is, le-leb _ _ c.if-destination-count.false)
     (closing c.read_blocks-ran.ensures (omega (arith, c.read_blocks-ran.auto.destination, c.if-destination-count.false)) c.close_plane.ensures)

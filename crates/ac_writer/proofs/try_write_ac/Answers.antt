@@ -9,7 +9,23 @@ use Rattle.plane_rules.specs.Plane.{readable, our_writer, writable}
 use Rattle.plane_rules.specs.AcWrite.{written_ac}
 use Rattle.plane_rules.proofs.Ranges.{Ranged, ranged}
 use native.Mathlib.Omega.{arith}
+use Rattle.ac_writer.proofs.try_write_ac.Goals.{Else-not-good_table, Else-not-readable, Else-not-writable}
 use Rattle.ac_writer.proofs.try_write_ac.Goals as goal
+
+-- the counts are good
+counts : (c : Else-not-readable) → every (readable c.args.plane c.args.blocks) ≡ true
+counts c = sym c.readable.ensures ∙ c.if-not-readable.false
+
+good : (c : Else-not-readable) → Ranged c.args.plane c.args.blocks
+good c = ranged c.args.plane c.args.blocks (counts c)
+
+-- and so is the level
+level : (c : Else-not-writable) → writable our_writer c.args.plane ≡ true
+level c = sym c.writable.ensures ∙ c.if-not-writable.false
+
+-- and so is the table
+tabled : (c : Else-not-good_table) → good_table (table c.args.counts.now c.args.codes.now) ≡ true
+tabled c = sym c.good_table.ensures ∙ c.if-not-good_table.false
 
 pub returns-then-not-readable : goal.returns-then-not-readable
 unfolding written_ac
@@ -17,47 +33,38 @@ returns-then-not-readable c = tried_refused c.refuse.ensures (rw (sym c.readable
 
 pub returns-then-not-writable : goal.returns-then-not-writable
 unfolding written_ac
-returns-then-not-writable c = let counts : every (readable c.args.plane c.args.blocks) ≡ true = sym c.readable.ensures ∙ c.if-not-readable.false in
-    tried_refused c.refuse-then-not-writable.ensures (rw (counts, sym c.writable.ensures ∙ c.if-not-writable.true))
+returns-then-not-writable c = let here = goal.at.returns-then-not-writable c in
+    tried_refused c.refuse-then-not-writable.ensures (rw (counts here.Else-not-readable, sym c.writable.ensures ∙ c.if-not-writable.true))
 
 pub overflow_mul-blocks : goal.overflow_mul-blocks
-overflow_mul-blocks c = let counts : every (readable c.args.plane c.args.blocks) ≡ true = sym c.readable.ensures ∙ c.if-not-readable.false in
-    let good : Ranged c.args.plane c.args.blocks = ranged c.args.plane c.args.blocks (counts) in
-    let r = good in omega arith
+overflow_mul-blocks c = let here = goal.at.overflow_mul-blocks c in
+    let r = good here.Else-not-readable in omega arith
 
 pub returns-then-values-blocks : goal.returns-then-values-blocks
 unfolding written_ac
-returns-then-values-blocks c = let counts : every (readable c.args.plane c.args.blocks) ≡ true = sym c.readable.ensures ∙ c.if-not-readable.false in
-    tried_refused c.refuse-then-values-blocks.ensures (rw (counts, sym c.writable.ensures ∙ c.if-not-writable.false, ne_eqb _ _ c.if-values-blocks.true))
+returns-then-values-blocks c = let here = goal.at.returns-then-values-blocks c in
+    tried_refused c.refuse-then-values-blocks.ensures (rw (counts here.Else-not-readable, sym c.writable.ensures ∙ c.if-not-writable.false, ne_eqb _ _ c.if-values-blocks.true))
 
 pub returns-then-not-good_table : goal.returns-then-not-good_table
 unfolding written_ac
-returns-then-not-good_table c = let counts : every (readable c.args.plane c.args.blocks) ≡ true = sym c.readable.ensures ∙ c.if-not-readable.false in
-    let level : writable our_writer c.args.plane ≡ true = sym c.writable.ensures ∙ c.if-not-writable.false in
-    tried_refused c.refuse-then-not-good_table.ensures (rw (counts, level, eq-eqb _ _ c.if-values-blocks.false, sym c.good_table.ensures ∙ c.if-not-good_table.true))
+returns-then-not-good_table c = let here = goal.at.returns-then-not-good_table c in
+    tried_refused c.refuse-then-not-good_table.ensures (rw (counts here.Else-not-readable, level here.Else-not-writable, eq-eqb _ _ c.if-values-blocks.false, sym c.good_table.ensures ∙ c.if-not-good_table.true))
 
 pub first_outside-requires : goal.first_outside-requires
-first_outside-requires c = let counts : every (readable c.args.plane c.args.blocks) ≡ true = sym c.readable.ensures ∙ c.if-not-readable.false in
-    let good : Ranged c.args.plane c.args.blocks = ranged c.args.plane c.args.blocks (counts) in
-    let r = good in omega arith
+first_outside-requires c = let here = goal.at.first_outside-requires c in
+    let r = good here.Else-not-readable in omega arith
 
 pub returns-in-At : goal.returns-in-At
 unfolding written_ac
-returns-in-At c = let counts : every (readable c.args.plane c.args.blocks) ≡ true = sym c.readable.ensures ∙ c.if-not-readable.false in
-    let level : writable our_writer c.args.plane ≡ true = sym c.writable.ensures ∙ c.if-not-writable.false in
-    let tabled : good_table (table c.args.counts.now c.args.codes.now) ≡ true = sym c.good_table.ensures ∙ c.if-not-good_table.false in
+returns-in-At c = let here = goal.at.returns-in-At c in
     tried_refused c.refuse-in-At.ensures
-    (rw (counts, level, eq-eqb _ _ c.if-values-blocks.false, tabled, sym c.first_outside.ensures ∙ c.in-At.is))
+    (rw (counts here.Else-not-readable, level here.Else-not-writable, eq-eqb _ _ c.if-values-blocks.false, tabled here.Else-not-good_table, sym c.first_outside.ensures ∙ c.in-At.is))
 
 pub put_all-requires : goal.put_all-requires
-put_all-requires c = let counts : every (readable c.args.plane c.args.blocks) ≡ true = sym c.readable.ensures ∙ c.if-not-readable.false in
-    let good : Ranged c.args.plane c.args.blocks = ranged c.args.plane c.args.blocks (counts) in
-    let tabled : good_table (table c.args.counts.now c.args.codes.now) ≡ true = sym c.good_table.ensures ∙ c.if-not-good_table.false in
-    let r = good in record { codes_value = tabled; values_len = (c.if-values-blocks.false, omega arith) }
+put_all-requires c = let here = goal.at.put_all-requires c in
+    let r = good here.Else-not-readable in record { codes_value = (tabled here.Else-not-good_table); values_len = (c.if-values-blocks.false, omega arith) }
 
 pub returns : goal.returns
 unfolding written_ac
-returns c = let counts : every (readable c.args.plane c.args.blocks) ≡ true = sym c.readable.ensures ∙ c.if-not-readable.false in
-    let level : writable our_writer c.args.plane ≡ true = sym c.writable.ensures ∙ c.if-not-writable.false in
-    let tabled : good_table (table c.args.counts.now c.args.codes.now) ≡ true = sym c.good_table.ensures ∙ c.if-not-good_table.false in
-    rw (counts, level, eq-eqb _ _ c.if-values-blocks.false, tabled, sym c.first_outside.ensures ∙ c.in_default.is) c.put_all.ensures
+returns c = let here = goal.at.returns c in
+    rw (counts here.Else-not-readable, level here.Else-not-writable, eq-eqb _ _ c.if-values-blocks.false, tabled here.Else-not-good_table, sym c.first_outside.ensures ∙ c.in_default.is) c.put_all.ensures

@@ -10,7 +10,15 @@ use Rattle.plane_rules.specs.Dc.{read_dc}
 use Rattle.plane_rules.proofs.Ranges.{Ranged, ranged}
 use Rattle.planes.proofs.Closing.{closing}
 use native.Mathlib.Omega.{arith}
+use Rattle.dc_reader.proofs.try_read_dc.Goals.{Else-not-readable}
 use Rattle.dc_reader.proofs.try_read_dc.Goals as goal
+
+-- the counts are good
+counts : (c : Else-not-readable) → every (readable c.args.plane c.args.blocks) ≡ true
+counts c = sym c.readable.ensures ∙ c.if-not-readable.false
+
+good : (c : Else-not-readable) → Ranged c.args.plane c.args.blocks
+good c = ranged c.args.plane c.args.blocks (counts c)
 
 pub returns-then-not-readable : goal.returns-then-not-readable
 unfolding read_dc
@@ -18,38 +26,35 @@ returns-then-not-readable c = tried_refused c.refuse.ensures (rw (sym c.readable
 
 pub returns-then-values-blocks : goal.returns-then-values-blocks
 unfolding read_dc
-returns-then-values-blocks c = let counts : every (readable c.args.plane c.args.blocks) ≡ true = sym c.readable.ensures ∙ c.if-not-readable.false in
-    tried_refused c.refuse-then-values-blocks.ensures (rw (counts, ne_eqb _ _ c.if-values-blocks.true))
+returns-then-values-blocks c = let here = goal.at.returns-then-values-blocks c in
+    tried_refused c.refuse-then-values-blocks.ensures (rw (counts here.Else-not-readable, ne_eqb _ _ c.if-values-blocks.true))
 
 pub overflow_sub-level : goal.overflow_sub-level
-overflow_sub-level c = let counts : every (readable c.args.plane c.args.blocks) ≡ true = sym c.readable.ensures ∙ c.if-not-readable.false in
-    let good : Ranged c.args.plane c.args.blocks = ranged c.args.plane c.args.blocks (counts) in
-    let r = good in omega arith
+overflow_sub-level c = let here = goal.at.overflow_sub-level c in
+    let r = good here.Else-not-readable in omega arith
 
 pub first_outside-requires : goal.first_outside-requires
-first_outside-requires c = let counts : every (readable c.args.plane c.args.blocks) ≡ true = sym c.readable.ensures ∙ c.if-not-readable.false in
-    let good : Ranged c.args.plane c.args.blocks = ranged c.args.plane c.args.blocks (counts) in
-    let r = good in omega arith
+first_outside-requires c = let here = goal.at.first_outside-requires c in
+    let r = good here.Else-not-readable in omega arith
 
 pub returns-in-At : goal.returns-in-At
 unfolding read_dc
-returns-in-At c = let counts : every (readable c.args.plane c.args.blocks) ≡ true = sym c.readable.ensures ∙ c.if-not-readable.false in
-    tried_refused c.refuse-in-At.ensures (rw (counts, eq-eqb _ _ c.if-values-blocks.false, sym c.first_outside.ensures ∙ c.in-At.is))
+returns-in-At c = let here = goal.at.returns-in-At c in
+    tried_refused c.refuse-in-At.ensures (rw (counts here.Else-not-readable, eq-eqb _ _ c.if-values-blocks.false, sym c.first_outside.ensures ∙ c.in-At.is))
 
 pub returns-then-destination-blocks : goal.returns-then-destination-blocks
 unfolding read_dc
-returns-then-destination-blocks c = let counts : every (readable c.args.plane c.args.blocks) ≡ true = sym c.readable.ensures ∙ c.if-not-readable.false in
+returns-then-destination-blocks c = let here = goal.at.returns-then-destination-blocks c in
     tried_refused c.refuse-then-destination-blocks.ensures
-    (rw (counts, eq-eqb _ _ c.if-values-blocks.false, sym c.first_outside.ensures ∙ c.in_default.is, lt-leb _ _ c.if-destination-blocks.true))
+    (rw (counts here.Else-not-readable, eq-eqb _ _ c.if-values-blocks.false, sym c.first_outside.ensures ∙ c.in_default.is, lt-leb _ _ c.if-destination-blocks.true))
 
 pub read_dc_blocks-ran-requires : goal.read_dc_blocks-ran-requires
-read_dc_blocks-ran-requires c = let counts : every (readable c.args.plane c.args.blocks) ≡ true = sym c.readable.ensures ∙ c.if-not-readable.false in
-    let good : Ranged c.args.plane c.args.blocks = ranged c.args.plane c.args.blocks (counts) in
-    let r = good in
+read_dc_blocks-ran-requires c = let here = goal.at.read_dc_blocks-ran-requires c in
+    let r = good here.Else-not-readable in
     record { small = all_small _ _ _ (omega arith) (sym c.first_outside.ensures ∙ c.in_default.is); values_in_bounds = omega arith }
 
 pub returns : goal.returns
 unfolding read_dc
-returns c = let counts : every (readable c.args.plane c.args.blocks) ≡ true = sym c.readable.ensures ∙ c.if-not-readable.false in
-    rw (counts, eq-eqb _ _ c.if-values-blocks.false, sym c.first_outside.ensures ∙ c.in_default.is, le-leb _ _ c.if-destination-blocks.false)
+returns c = let here = goal.at.returns c in
+    rw (counts here.Else-not-readable, eq-eqb _ _ c.if-values-blocks.false, sym c.first_outside.ensures ∙ c.in_default.is, le-leb _ _ c.if-destination-blocks.false)
     (closing (rw c.if-values-blocks.false at c.read_dc_blocks-ran.ensures) (omega (arith, c.read_dc_blocks-ran.auto.destination)) c.close_plane.ensures)

@@ -10,7 +10,19 @@ use Rattle.plane_rules.specs.Plane.{readable, our_writer, writable}
 use Rattle.plane_rules.specs.Dc.{dc_bit, dc_bytes, written_dc}
 use Rattle.plane_rules.proofs.Ranges.{Ranged, ranged}
 use native.Mathlib.Omega.{arith}
+use Rattle.dc_writer.proofs.try_write_dc.Goals.{Else-not-readable, Else-not-writable}
 use Rattle.dc_writer.proofs.try_write_dc.Goals as goal
+
+-- the counts are good
+counts : (c : Else-not-readable) → every (readable c.args.plane c.args.blocks) ≡ true
+counts c = sym c.readable.ensures ∙ c.if-not-readable.false
+
+good : (c : Else-not-readable) → Ranged c.args.plane c.args.blocks
+good c = ranged c.args.plane c.args.blocks (counts c)
+
+-- and so is the level
+level : (c : Else-not-writable) → writable our_writer c.args.plane ≡ true
+level c = sym c.writable.ensures ∙ c.if-not-writable.false
 
 pub returns-then-not-readable : goal.returns-then-not-readable
 unfolding written_dc
@@ -18,46 +30,40 @@ returns-then-not-readable c = tried_refused c.refuse.ensures (rw (sym c.readable
 
 pub returns-then-not-writable : goal.returns-then-not-writable
 unfolding written_dc
-returns-then-not-writable c = let counts : every (readable c.args.plane c.args.blocks) ≡ true = sym c.readable.ensures ∙ c.if-not-readable.false in
-    tried_refused c.refuse-then-not-writable.ensures (rw (counts, sym c.writable.ensures ∙ c.if-not-writable.true))
+returns-then-not-writable c = let here = goal.at.returns-then-not-writable c in
+    tried_refused c.refuse-then-not-writable.ensures (rw (counts here.Else-not-readable, sym c.writable.ensures ∙ c.if-not-writable.true))
 
 pub returns-then-values-blocks : goal.returns-then-values-blocks
 unfolding written_dc
-returns-then-values-blocks c = let counts : every (readable c.args.plane c.args.blocks) ≡ true = sym c.readable.ensures ∙ c.if-not-readable.false in
-    tried_refused c.refuse-then-values-blocks.ensures (rw (counts, sym c.writable.ensures ∙ c.if-not-writable.false, ne_eqb _ _ c.if-values-blocks.true))
+returns-then-values-blocks c = let here = goal.at.returns-then-values-blocks c in
+    tried_refused c.refuse-then-values-blocks.ensures (rw (counts here.Else-not-readable, sym c.writable.ensures ∙ c.if-not-writable.false, ne_eqb _ _ c.if-values-blocks.true))
 
 pub first_outside-requires : goal.first_outside-requires
-first_outside-requires c = let counts : every (readable c.args.plane c.args.blocks) ≡ true = sym c.readable.ensures ∙ c.if-not-readable.false in
-    let good : Ranged c.args.plane c.args.blocks = ranged c.args.plane c.args.blocks (counts) in
-    let r = good in omega arith
+first_outside-requires c = let here = goal.at.first_outside-requires c in
+    let r = good here.Else-not-readable in omega arith
 
 pub returns-in-At : goal.returns-in-At
 unfolding written_dc
-returns-in-At c = let counts : every (readable c.args.plane c.args.blocks) ≡ true = sym c.readable.ensures ∙ c.if-not-readable.false in
-    let level : writable our_writer c.args.plane ≡ true = sym c.writable.ensures ∙ c.if-not-writable.false in
-    tried_refused c.refuse-in-At.ensures (rw (counts, level, eq-eqb _ _ c.if-values-blocks.false, sym c.first_outside.ensures ∙ c.in-At.is))
+returns-in-At c = let here = goal.at.returns-in-At c in
+    tried_refused c.refuse-in-At.ensures (rw (counts here.Else-not-readable, level here.Else-not-writable, eq-eqb _ _ c.if-values-blocks.false, sym c.first_outside.ensures ∙ c.in-At.is))
 
 pub put_dc_bits-p-requires : goal.put_dc_bits-p-requires
-put_dc_bits-p-requires c = let counts : every (readable c.args.plane c.args.blocks) ≡ true = sym c.readable.ensures ∙ c.if-not-readable.false in
-    let good : Ranged c.args.plane c.args.blocks = ranged c.args.plane c.args.blocks (counts) in
-    let r = good in omega arith
+put_dc_bits-p-requires c = let here = goal.at.put_dc_bits-p-requires c in
+    let r = good here.Else-not-readable in omega arith
 
 pub put_end-count-requires : goal.put_end-count-requires
-put_end-count-requires c = let counts : every (readable c.args.plane c.args.blocks) ≡ true = sym c.readable.ensures ∙ c.if-not-readable.false in
-    let good : Ranged c.args.plane c.args.blocks = ranged c.args.plane c.args.blocks (counts) in
-    let r = good in
+put_end-count-requires c = let here = goal.at.put_end-count-requires c in
+    let r = good here.Else-not-readable in
     record { sound = c.put_dc_bits-p.ensures.sound; at_bound = omega (arith, c.put_dc_bits-p.ensures.near, length-map c.args.values.now dc_bit) }
 
 pub returns-then-destination-count : goal.returns-then-destination-count
 unfolding written_dc
-returns-then-destination-count c = let counts : every (readable c.args.plane c.args.blocks) ≡ true = sym c.readable.ensures ∙ c.if-not-readable.false in
-    let level : writable our_writer c.args.plane ≡ true = sym c.writable.ensures ∙ c.if-not-writable.false in
-    rw (counts, level, eq-eqb _ _ c.if-values-blocks.false, sym c.first_outside.ensures ∙ c.in_default.is)
+returns-then-destination-count c = let here = goal.at.returns-then-destination-count c in
+    rw (counts here.Else-not-readable, level here.Else-not-writable, eq-eqb _ _ c.if-values-blocks.false, sym c.first_outside.ensures ∙ c.in_default.is)
     (fitting_short _ (dc_bytes c.args.values.now) (all_counted c.put_dc_bits-p.ensures c.put_end-count.ensures) (omega arith) c.refuse-then-destination-count.ensures)
 
 pub returns : goal.returns
 unfolding written_dc
-returns c = let counts : every (readable c.args.plane c.args.blocks) ≡ true = sym c.readable.ensures ∙ c.if-not-readable.false in
-    let level : writable our_writer c.args.plane ≡ true = sym c.writable.ensures ∙ c.if-not-writable.false in
-    rw (counts, level, eq-eqb _ _ c.if-values-blocks.false, sym c.first_outside.ensures ∙ c.in_default.is)
+returns c = let here = goal.at.returns c in
+    rw (counts here.Else-not-readable, level here.Else-not-writable, eq-eqb _ _ c.if-values-blocks.false, sym c.first_outside.ensures ∙ c.in_default.is)
     (fitting_given _ (dc_bytes c.args.values.now) (all_counted c.put_dc_bits-p.ensures c.put_end-count.ensures) (omega arith) (all_stored c.put_dc_bits-p.ensures c.put_end-count.ensures (omega (arith, all_counted c.put_dc_bits-p.ensures c.put_end-count.ensures))))
