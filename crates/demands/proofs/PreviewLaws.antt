@@ -1,4 +1,4 @@
--- Each preview of a picture that is merged is merged too, and of any blocks its results are near; all laws of previews together. Assumes nothing.
+-- Each preview of a picture that is merged is merged too; what own quantisers owe. Assumes nothing.
 use mathlib.Core.Path.{◌≡◌, refl, ap, ◌∙◌}
 use mathlib.Core.Bool.{true}
 use mathlib.Core.List.{[]}

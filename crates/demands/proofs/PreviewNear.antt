@@ -1,4 +1,4 @@
--- Results of a preview are near. Assumes nothing.
+-- Of any blocks within the ranges, the results of a preview are near. Assumes nothing.
 use mathlib.Core.Path.{◌≡◌, refl, sym, ◌∙◌}
 use mathlib.Core.Bool.{true}
 use mathlib.Core.Logic.{⊎_elim}

@@ -1,4 +1,4 @@
--- Level 4 is no longer written, and nothing else changes; what follows for calls. Assumes nothing.
+-- Level 4 is no longer written, and nothing else changes. Assumes nothing.
 use mathlib.Core.Path.{◌≡◌, refl, sym, ◌∙◌}
 use mathlib.Core.Bool.{Bool, true, false}
 use Prim.Native.Nat.{ℕ, ◌≤◌, ◌<◌}

@@ -1,5 +1,5 @@
+-- What goes down from call to call of `listing_text::put_hex`.
 use Rattle.listing_text.proofs.+put_hex.Given as goal
 
--- proposed from what the function passes where it calls itself
 abbrev pub decreases-put_hex : goal.decreases-put_hex
 decreases-put_hex l = l.k
