@@ -10,7 +10,7 @@ fn main() {
         panic!("there is no {}/libreader_c.a: run `tools/library target/staticlib` at the repository's root first", folder.display());
     }
     if named.is_none() && std::env::var("CARGO_CFG_TARGET_ARCH").unwrap() != "x86_64" {
-        panic!("target/staticlib's library is for x86-64 Linux: an emulator runs it on this machine");
+        panic!("the library is for x86-64 Linux: build for that target, and run it under an emulator");
     }
     println!("cargo:rustc-link-search=native={}", folder.display());
     println!("cargo:rustc-link-lib=static=reader_c");
