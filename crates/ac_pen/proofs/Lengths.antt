@@ -2,13 +2,11 @@
 use mathlib.Core.Path.{◌≡◌, ap}
 use mathlib.Core.Bool.{Bool, true, false, cond}
 use mathlib.Core.List.{List, [], ◌∷◌, map}
-use mathlib.Core.Option.{none, some}
+use Rattle.std.specs.Prelude.{Option, Some, None}
 use Prim.Native.Nat.{ℕ, suc, ◌+◌, ◌-◌, ◌*◌, ◌^◌, ◌≤◌}
 use native.Mathlib.Omega.{arith}
 use lib.Dec.{ltb}
 use lib.ListN.{length, length-append}
-use Rattle.laws.specs.declared.Found.{Found}
-use Rattle.laws.specs.declared.Found.TheVariants.{At, Nothing}
 use Rattle.bit_rules.specs.Digits.{digits}
 use Rattle.bit_rules.specs.Table.{Table, good_table}
 use Rattle.bit_rules.specs.Write.{place_of, code_at, code_of, word}
@@ -29,9 +27,9 @@ code_length (n ∷ counts) first size k = go (ltb k n) (code_length counts (2 * 
     go true h = omega (arith, digits_length (suc size) (first + k))
     go false h = omega arith
 
-found_length : (counts : List ℕ) (f : Found) → length (code_of counts f) ≤ length counts
-found_length counts (At k) = omega (arith, code_length counts 0 0 k)
-found_length counts Nothing = omega arith
+found_length : (counts : List ℕ) (f : Option ℕ) → length (code_of counts f) ≤ length counts
+found_length counts (Some k) = omega (arith, code_length counts 0 0 k)
+found_length counts None = omega arith
 
 module _ (T : Table) (g : good_table T ≡ true) where
   word_length : (v : ℕ) → length (word T v) ≤ 16
@@ -44,8 +42,8 @@ module _ (T : Table) (g : good_table T ≡ true) where
 
   pub emit_length : (t : Task) → length (spelled T (emit t)) ≤ 30
   unfolding emit spelled
-  emit_length (walk n none) = omega (arith, word_length (16 * n), length-append (word T (16 * n)) [])
-  emit_length (walk n (some b)) = omega (arith, word_length (16 * n + 1), length-append (word T (16 * n + 1)) (b ∷ []))
+  emit_length (walk n None) = omega (arith, word_length (16 * n), length-append (word T (16 * n)) [])
+  emit_length (walk n (Some b)) = omega (arith, word_length (16 * n + 1), length-append (word T (16 * n + 1)) (b ∷ []))
   emit_length (ended n) =
       let bits = digits (class (suc n)) (suc n - 2 ^ class (suc n)) in
       omega (

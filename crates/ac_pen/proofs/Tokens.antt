@@ -6,8 +6,7 @@ use Prim.Native.Nat.{ℕ, suc, ◌+◌, ◌*◌, ◌/◌, ◌%◌, ◌≤◌, �
 use native.Mathlib.Numerals.{add-one}
 use native.Mathlib.Omega.{arith}
 use borrow.Author.Tests.{eq-eqb, ne_eqb}
-use Rattle.laws.specs.declared.Found.{Found}
-use Rattle.laws.specs.declared.Found.TheVariants.{At, Nothing}
+use Rattle.std.specs.Prelude.{Option, Some, None}
 use Rattle.bit_putter.specs.Code.{Sound, Puts}
 use Rattle.bit_rules.specs.Digits.{digits}
 use Rattle.bit_putter.proofs.Putting.{puts_none, puts_then, Going, going_start, going_turn, going_end}
@@ -31,9 +30,9 @@ spelled_append T [] b = refl
 spelled_append T (raw x ∷ a) b = ap (◌∷◌ x) (spelled_append T a b)
 spelled_append T (code v ∷ a) b = ap (λ (l : List Bool). word T v ++ l) (spelled_append T a b) ∙ sym (append_assoc (word T v) (spelled T a) (spelled T b))
 
-else_first : (v : ℕ) (f a b : Found) → or_else v f (first_of a b) ≡ first_of (or_else v f a) b
-else_first v (At k) a b = refl
-else_first v Nothing a b = refl
+else_first : (v : ℕ) (f a b : Option ℕ) → or_else v f (first_of a b) ≡ first_of (or_else v f a) b
+else_first v (Some k) a b = refl
+else_first v None a b = refl
 
 missing_append : (T : Table) (a b : List Token) → lacking T (a ++ b) ≡ first_of (lacking T a) (lacking T b)
 unfolding lacking
@@ -42,13 +41,13 @@ missing_append T (raw x ∷ a) b = missing_append T a b
 missing_append T (code v ∷ a) b =
     ap (or_else v (place_of v T.values)) (missing_append T a b) ∙ else_first v (place_of v T.values) (lacking T a) (lacking T b)
 
-first_assoc : (a b c : Found) → first_of (first_of a b) c ≡ first_of a (first_of b c)
-first_assoc (At v) b c = refl
-first_assoc Nothing b c = refl
+first_assoc : (a b c : Option ℕ) → first_of (first_of a b) c ≡ first_of a (first_of b c)
+first_assoc (Some v) b c = refl
+first_assoc None b c = refl
 
-first_none : (a : Found) → first_of a Nothing ≡ a
-first_none (At v) = refl
-first_none Nothing = refl
+first_none : (a : Option ℕ) → first_of a None ≡ a
+first_none (Some v) = refl
+first_none None = refl
 
 -- bits by themselves
 pub spelled_raw : (T : Table) (bits : List Bool) → spelled T (map raw bits) ≡ bits
@@ -56,7 +55,7 @@ unfolding spelled
 spelled_raw T [] = refl
 spelled_raw T (b ∷ bits) = ap (◌∷◌ b) (spelled_raw T bits)
 
-missing_raw : (T : Table) (bits : List Bool) → lacking T (map raw bits) ≡ Nothing
+missing_raw : (T : Table) (bits : List Bool) → lacking T (map raw bits) ≡ None
 unfolding lacking
 missing_raw T [] = refl
 missing_raw T (b ∷ bits) = missing_raw T bits
@@ -71,7 +70,7 @@ module _ {T : Table} where
   pub told_then : {a b c : List ℕ} {p q r : Pen} {xs ys : List Token} → Told T a b p q xs → Told T b c q r ys → Told T a c p r (xs ++ ys)
   told_then {p = p} {xs = xs} {ys = ys} f g = record {
     put = rw (spelled_append T xs ys) (puts_then f.put g.put);
-    lack = g.lack ∙ ap (λ (x : Found). first_of x (lacking T ys)) f.lack ∙ first_assoc p.lack (lacking T xs) (lacking T ys) ∙ ap (first_of p.lack) (sym (missing_append T xs ys));
+    lack = g.lack ∙ ap (λ (x : Option ℕ). first_of x (lacking T ys)) f.lack ∙ first_assoc p.lack (lacking T xs) (lacking T ys) ∙ ap (first_of p.lack) (sym (missing_append T xs ys));
   }
 
   -- bits alone
@@ -82,13 +81,13 @@ module _ {T : Table} where
 
 -- ---- one code, by its entry
 
-else_held : (v : ℕ) (f : Found) → absent f ≡ false → or_else v f Nothing ≡ Nothing
-else_held v (At k) e = refl
-else_held v Nothing e = absurd (true≢false e)
+else_held : (v : ℕ) (f : Option ℕ) → absent f ≡ false → or_else v f None ≡ None
+else_held v (Some k) e = refl
+else_held v None e = absurd (true≢false e)
 
-else_lacked : (v : ℕ) (f : Found) → absent f ≡ true → or_else v f Nothing ≡ At v
-else_lacked v (At k) e = absurd (true≢false (sym e))
-else_lacked v Nothing e = refl
+else_lacked : (v : ℕ) (f : Option ℕ) → absent f ≡ true → or_else v f None ≡ Some v
+else_lacked v (Some k) e = absurd (true≢false (sym e))
+else_lacked v None e = refl
 
 module _ (T : Table) {before after : List ℕ} {p r : Pen} {v entry : ℕ} (e : Entered T.counts (place_of v T.values) entry) where
   -- the table holds it
@@ -100,7 +99,7 @@ module _ (T : Table) {before after : List ℕ} {p r : Pen} {v entry : ℕ} (e : 
   }
 
   -- or lacks it
-  pub told_lacked : entry ≡ 0 → Puts before after p.putter r.putter [] → r.lack ≡ first_of p.lack (At v) → Told T before after p r (code v ∷ [])
+  pub told_lacked : entry ≡ 0 → Puts before after p.putter r.putter [] → r.lack ≡ first_of p.lack (Some v) → Told T before after p r (code v ∷ [])
   unfolding spelled lacking word digits
   told_lacked z f q = record {
     put = rw (append-nil (code_of T.counts (place_of v T.values)), ← (rw z at e.same)) f;
@@ -142,7 +141,7 @@ module _ {T : Table} {before : List ℕ} {p : Pen} where
       → Told T memory after q r xs → Telling T before after p r rest all
   telling_turn {q = q} xs rest g f = record {
     going = going_turn (spelled T xs) (spelled T rest) (rw (spelled_append T xs rest) at g.going) f.put;
-    lack = ap (λ (x : Found). first_of x (lacking T rest)) f.lack ∙ first_assoc q.lack (lacking T xs) (lacking T rest) ∙ ap (first_of q.lack) (sym (missing_append T xs rest)) ∙ g.lack;
+    lack = ap (λ (x : Option ℕ). first_of x (lacking T rest)) f.lack ∙ first_assoc q.lack (lacking T xs) (lacking T rest) ∙ ap (first_of q.lack) (sym (missing_append T xs rest)) ∙ g.lack;
   }
 
   pub telling_end : {memory : List ℕ} {q : Pen} {all : List Token} → Telling T before memory p q [] all → Told T before memory p q all

@@ -1,7 +1,5 @@
 -- What the code's pen stands for, and what it means that tokens were told.
-use Rattle.std.specs.Prelude.{◌≡◌, true, List, ℕ, ◌^◌, ◌<◌}
-use Rattle.laws.specs.declared.Found.{Found}
-use Rattle.laws.specs.declared.Found.TheVariants.{At, Nothing}
+use Rattle.std.specs.Prelude.{◌≡◌, true, List, ℕ, ◌^◌, ◌<◌, Option, Some, None}
 use Rattle.bit_putter.specs.Code.{Sound, Puts}
 use Rattle.bit_rules.specs.Table.{Table, good_table}
 use Rattle.code_entries.specs.Code.{Entries}
@@ -9,9 +7,9 @@ use Rattle.plane_rules.specs.AcWrite.{Token, lacking, spelled}
 use Rattle.ac_pen.specs.declared.Pen.{Pen}
 
 -- "19 .. first needed in writing order": what was found first stays
-abbrev pub first_of : Found → Found → Found
-first_of (At v) next = At v
-first_of Nothing next = next
+abbrev pub first_of : Option ℕ → Option ℕ → Option ℕ
+first_of (Some v) next = Some v
+first_of None next = next
 
 -- a pen that can go on
 pub record PenReady (p : Pen) : Type 0 where

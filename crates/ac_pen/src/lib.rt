@@ -1,8 +1,7 @@
 // Tokens of an AC plane put by a pen that keeps the first code that the table lacks (docs/RULES.md, E8 to E10).
 #![tactic(auto)]
 
-ghost use Rattle.std.specs.Prelude.{◌≡◌, [], ◌∷◌, ◌^◌, ◌≤◌, ◌<◌};
-ghost use Rattle.laws.specs.declared.Found.TheVariants.{At};
+ghost use Rattle.std.specs.Prelude.{◌≡◌, [], ◌∷◌, ◌^◌, ◌≤◌, ◌<◌, Some};
 ghost use Rattle.bit_putter.specs.Code.{Sound};
 ghost use Rattle.bit_rules.specs.Table.{Table};
 ghost use Rattle.plane_rules.specs.Task.{ended};
@@ -13,22 +12,21 @@ ghost use Rattle.ac_pen.specs.Code.{first_of, PenReady, Coded, Known, Told};
 
 use ac_tasks::Job;
 use bit_putter::Putter;
-use laws::Found;
 
 // The putter, and the first code that the table lacks.
 #[derive(Clone, Copy)]
 pub struct Pen {
     pub putter: Putter,
-    pub lack: Found,
+    pub lack: Option<usize>,
 }
 
 // "19 .. the code's value": the first one stays.
-fn or_lacking(lack: Found, value: u8) -> Found
-    ensures { result ≡ first_of lack (At value) }
+fn or_lacking(lack: Option<usize>, value: u8) -> Option<usize>
+    ensures { result ≡ first_of lack (Some value) }
 {
     match lack {
-        Found::At(v) => Found::At(v),
-        Found::Nothing => Found::At(value as usize),
+        Some(v) => Some(v),
+        None => Some(value as usize),
     }
 }
 

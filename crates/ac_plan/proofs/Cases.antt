@@ -2,7 +2,7 @@
 use mathlib.Core.Path.{◌≡◌, refl}
 use mathlib.Core.List.{List, [], ◌∷◌, ◌++◌, map}
 use mathlib.Core.Bool.{true, false}
-use mathlib.Core.Option.{none, some}
+use Rattle.std.specs.Prelude.{Some, None}
 use Prim.Native.Nat.{ℕ}
 use lib.IntN.{ℤ, pos, negsuc}
 use lib.ListN.{replicate}
@@ -11,7 +11,6 @@ use Rattle.plane_rules.specs.AcRead.{cut}
 use Rattle.plane_rules.specs.AcWrite.{ac_half, keep, still, fresh, kind_of, one_more, ahead, quiet, plan}
 use Rattle.ac_plan.specs.Code.{kinds_from, kind_blocks, kind_is, coming_is}
 use Rattle.ac_plan.specs.declared.Change.TheVariants.{Kept, Still, Fresh}
-use Rattle.ac_plan.specs.declared.Coming.TheVariants.{Value, Quiet}
 
 abbrev zeros : ℕ → List ℤ
 zeros n = replicate n (pos 0)
@@ -27,19 +26,19 @@ abbrev row : List ℤ
 row = pos 0 ∷ pos 2 ∷ pos 0 ∷ negsuc 0 ∷ pos 1 ∷ negsuc 2 ∷ pos 0 ∷ []
 
 pub coming : map (λ (i : ℕ). ahead (kinds_from row i)) (0 ∷ 1 ∷ 2 ∷ 3 ∷ 4 ∷ 5 ∷ 7 ∷ [])
-    ≡ (some (2, false) ∷ some (1, false) ∷ some (1, false) ∷ some (0, false) ∷ some (0, true) ∷ none ∷ none ∷ [])
+    ≡ (Some (2, false) ∷ Some (1, false) ∷ Some (1, false) ∷ Some (0, false) ∷ Some (0, true) ∷ None ∷ None ∷ [])
 unfolding kinds_from ac_half kind_of one_more ahead
 coming = refl
 
 -- "the zero after r zeros": r is at most 15 in a code with a sign; sixteen zeros before a new value take "the 16-zero code", and so do seventeen
 pub before_new : map (λ (n : ℕ). plan (kinds_from (zeros n ++ (pos 1 ∷ [])) 0) []) (0 ∷ 1 ∷ 15 ∷ 16 ∷ 17 ∷ [])
-    ≡ (walk 0 (some true) ∷ walk 1 (some true) ∷ walk 15 (some true) ∷ walk 15 none ∷ walk 15 none ∷ [])
+    ≡ (walk 0 (Some true) ∷ walk 1 (Some true) ∷ walk 15 (Some true) ∷ walk 15 None ∷ walk 15 None ∷ [])
 unfolding kinds_from ac_half kind_of one_more ahead quiet plan
 before_new = refl
 
 -- "uses the 16-zero code only before a later new value": twenty zeros and none; "starts it directly after the last new value": corrections are left
 pub run_begins : (plan (kinds_from (zeros 20) 0) [] ∷ plan (kinds_from (pos 1 ∷ pos 3 ∷ pos 0 ∷ []) 1) [] ∷ plan (kinds_from (pos 3 ∷ pos 1 ∷ []) 0) [] ∷ [])
-    ≡ (ended 0 ∷ ended 0 ∷ walk 0 (some true) ∷ [])
+    ≡ (ended 0 ∷ ended 0 ∷ walk 0 (Some true) ∷ [])
 unfolding kinds_from ac_half kind_of one_more ahead quiet plan
 run_begins = refl
 
@@ -58,6 +57,6 @@ unfolding kind_blocks cut ac_half kind_of one_more ahead quiet plan
 run_lengths = refl
 
 -- what the code's enums stand for
-pub enums : (kind_is (Kept true) ≡ keep true) × (kind_is Still ≡ still) × (kind_is (Fresh false) ≡ fresh false) × (coming_is (Value 3 true) ≡ some (3, true)) × (coming_is Quiet ≡ none)
+pub enums : (kind_is (Kept true) ≡ keep true) × (kind_is Still ≡ still) × (kind_is (Fresh false) ≡ fresh false) × (coming_is (Some (record { zeros = 3; positive = true })) ≡ Some (3, true)) × (coming_is None ≡ None)
 unfolding kind_is coming_is
 enums = (refl, refl, refl, refl, refl)

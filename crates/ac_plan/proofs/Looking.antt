@@ -2,7 +2,7 @@
 use mathlib.Core.Path.{◌≡◌, refl, sym, ap, ◌∙◌}
 use mathlib.Core.Bool.{Bool}
 use mathlib.Core.List.{List, [], ◌∷◌}
-use mathlib.Core.Option.{Option, none, some}
+use Rattle.std.specs.Prelude.{Option, Some, None}
 use Prim.Native.Nat.{ℕ, zero, suc, ◌+◌, ◌-◌, ◌*◌, ◌≤◌, ◌<◌}
 use native.Mathlib.Numerals.{add-one}
 use native.Mathlib.Omega.{arith}
@@ -13,11 +13,10 @@ use Rattle.bit_rules.specs.Digits.{odd}
 use Rattle.plane_rules.specs.AcRead.{cut}
 use Rattle.plane_rules.specs.AcWrite.{Kind, fresh, kind_of, ahead, one_more, quiet, unless_new}
 use Rattle.plane_rules.proofs.Halves.{kind_zero, kind_up, kind_down}
+use Rattle.ac_plan.specs.declared.Coming.{Coming}
 use Rattle.ac_plan.specs.Code.{kinds_from, kind_blocks, kind_is, still_is, coming_is}
 use Rattle.ac_plan.specs.declared.Change.{Change}
 use Rattle.ac_plan.specs.declared.Change.TheVariants.{Kept, Still, Fresh}
-use Rattle.ac_plan.specs.declared.Coming.{Coming}
-use Rattle.ac_plan.specs.declared.Coming.TheVariants.{Value, Quiet}
 
 -- ---- the kinds of a block
 
@@ -33,17 +32,17 @@ module _ (block : List ℤ) (i : ℕ) where
 -- ---- a block from a position on, behind some zeros
 
 abbrev more_zeros : ℕ → Option (ℕ × Bool) → Option (ℕ × Bool)
-more_zeros n none = none
-more_zeros n (some p) = some (n + p.0, p.1)
+more_zeros n None = None
+more_zeros n (Some p) = Some (n + p.0, p.1)
 
 more_none : (x : Option (ℕ × Bool)) → more_zeros 0 x ≡ x
-more_none none = refl
-more_none (some p) = ap (λ (k : ℕ). some (k, p.1)) (omega arith)
+more_none None = refl
+more_none (Some p) = ap (λ (k : ℕ). Some (k, p.1)) (omega arith)
 
 more_one : (n : ℕ) (x : Option (ℕ × Bool)) → more_zeros n (one_more x) ≡ more_zeros (n + 1) x
 unfolding one_more
-more_one n none = refl
-more_one n (some p) = ap (λ (k : ℕ). some (k, p.1)) (omega arith)
+more_one n None = refl
+more_one n (Some p) = ap (λ (k : ℕ). Some (k, p.1)) (omega arith)
 
 pub record Looked (block : List ℤ) (from zeros i : ℕ) : Type 0 where
   pub within : zeros ≤ i
@@ -53,7 +52,7 @@ pub look_start : (block : List ℤ) (from : ℕ) → Looked block from 0 from
 look_start block from = record { within = omega arith; same = more_none (ahead (kinds_from block from)) }
 
 module _ {block : List ℤ} {from zeros i : ℕ} (l : Looked block from zeros i) where
-  pub look_end : length block ≤ i → coming_is Quiet ≡ ahead (kinds_from block from)
+  pub look_end : length block ≤ i → coming_is None ≡ ahead (kinds_from block from)
   unfolding coming_is ahead
   look_end h = ap (λ (ks : List Kind). more_zeros zeros (ahead ks)) (sym (kinds_end block i h)) ∙ l.same
 
@@ -69,9 +68,9 @@ module _ {block : List ℤ} {from zeros i : ℕ} (l : Looked block from zeros i)
     unfolding kind_is ahead
     look_still q = record { within = omega (arith, l.within); same = sym (more_one zeros (ahead (kinds_from block (i + 1)))) ∙ here q }
 
-    pub look_fresh : {b : Bool} → change ≡ Fresh b → coming_is (Value zeros b) ≡ ahead (kinds_from block from)
+    pub look_fresh : {b : Bool} → change ≡ Fresh b → coming_is (Some (record { zeros = zeros; positive = b })) ≡ ahead (kinds_from block from)
     unfolding kind_is coming_is ahead
-    look_fresh {b} q = ap (λ (k : ℕ). some (k, b)) (omega arith) ∙ here q
+    look_fresh {b} q = ap (λ (k : ℕ). Some (k, b)) (omega arith) ∙ here q
 
   -- a value that is not new
   pub look_on : (v : ℤ) → i < length block → get_or block i (pos 0) ≡ v → (v ≡ pos 1 → ⊥) → (v ≡ negsuc 0 → ⊥) → Looked block from (zeros + still_is (kind_of v)) (i + 1)
@@ -83,7 +82,7 @@ module _ {block : List ℤ} {from zeros i : ℕ} (l : Looked block from zeros i)
   look_on (negsuc (suc k)) h e n m = let z : zeros + 0 ≡ zeros = omega arith in rw (kind_down k, z) (look_kept h {change = Kept (odd k)} (rw (e, kind_down k)) refl)
 
   -- one that is
-  pub look_new : (v : ℤ) (b : Bool) → i < length block → get_or block i (pos 0) ≡ v → kind_of v ≡ fresh b → coming_is (Value zeros b) ≡ ahead (kinds_from block from)
+  pub look_new : (v : ℤ) (b : Bool) → i < length block → get_or block i (pos 0) ≡ v → kind_of v ≡ fresh b → coming_is (Some (record { zeros = zeros; positive = b })) ≡ ahead (kinds_from block from)
   unfolding kind_is
   look_new v b h e k = look_fresh h {change = Fresh b} (sym (ap kind_of e ∙ k)) refl
 
@@ -118,15 +117,15 @@ module _ {blocks : ℕ} {values : List ℤ} {n : ℕ} (p : Passed blocks values 
   unfolding quiet
   passed_all h = (omega (arith, p.same, ap quiet (blocks_end blocks values n h)), p.within)
 
-  module _ {part : List ℤ} (c : Coming) (h : n < blocks) (e : part ≡ take 63 (drop (63 * n) values)) (q : coming_is c ≡ ahead (kinds_from part 0)) where
+  module _ {part : List ℤ} (c : Option Coming) (h : n < blocks) (e : part ≡ take 63 (drop (63 * n) values)) (q : coming_is c ≡ ahead (kinds_from part 0)) where
     counted : quiet (kind_blocks (blocks - n) (drop (63 * n) values)) ≡ unless_new (coming_is c) (quiet (kind_blocks (blocks - (n + 1)) (drop (63 * (n + 1)) values)))
     unfolding quiet
     counted = rw (blocks_cons blocks values n h e, q)
 
-    pub passed_one : c ≡ Quiet → Passed blocks values (n + 1)
+    pub passed_one : c ≡ None → Passed blocks values (n + 1)
     unfolding coming_is
     passed_one f = record { within = omega arith; same = omega (arith, p.same, rw f at counted) }
 
-    pub passed_new : {zeros : ℕ} {b : Bool} → c ≡ Value zeros b → (n ≡ quiet (kind_blocks blocks values)) × (n ≤ blocks)
+    pub passed_new : {zeros : ℕ} {b : Bool} → c ≡ Some (record { zeros = zeros; positive = b }) → (n ≡ quiet (kind_blocks blocks values)) × (n ≤ blocks)
     unfolding coming_is
     passed_new f = (omega (arith, p.same, rw f at counted), p.within)

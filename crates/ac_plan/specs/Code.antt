@@ -1,6 +1,5 @@
 -- What the code's answers about AC values stand for.
-use Rattle.std.specs.Prelude.{◌≡◌, Bool, List, map, ℕ, ◌≤◌, ◌<◌, ℤ, drop}
-use Rattle.std.proofs.Math.Option.{Option, none, some}
+use Rattle.std.specs.Prelude.{◌≡◌, Bool, List, map, ℕ, ◌≤◌, ◌<◌, ℤ, drop, Option, Some, None}
 use Rattle.plane_rules.specs.Task.{Task}
 use Rattle.plane_rules.specs.AcRead.{cut}
 use Rattle.plane_rules.specs.AcWrite.{Kind, keep, still, fresh, kind_of}
@@ -8,9 +7,8 @@ use Rattle.ac_tasks.specs.Code.{task_of}
 use Rattle.ac_tasks.specs.declared.Job.{Job}
 use Rattle.ac_tasks.specs.declared.Job.TheVariants.{Leave, Set, Ended}
 use Rattle.ac_plan.specs.declared.Change.{Change}
-use Rattle.ac_plan.specs.declared.Change.TheVariants.{Kept, Still, Fresh}
 use Rattle.ac_plan.specs.declared.Coming.{Coming}
-use Rattle.ac_plan.specs.declared.Coming.TheVariants.{Value, Quiet}
+use Rattle.ac_plan.specs.declared.Change.TheVariants.{Kept, Still, Fresh}
 
 -- ---- values as kinds
 
@@ -22,7 +20,7 @@ kinds_from block i = map kind_of (drop i block)
 unfoldable pub kind_blocks : ℕ → List ℤ → List (List Kind)
 kind_blocks blocks values = map (map kind_of) (cut blocks values)
 
--- ---- the code's enums
+-- ---- the code's types
 
 unfoldable pub kind_is : Change → Kind
 kind_is (Kept b) = keep b
@@ -35,9 +33,9 @@ still_is (keep b) = 0
 still_is still = 1
 still_is (fresh b) = 0
 
-unfoldable pub coming_is : Coming → Option (ℕ × Bool)
-coming_is (Value zeros sign) = some (zeros, sign)
-coming_is Quiet = none
+unfoldable pub coming_is : Option Coming → Option (ℕ × Bool)
+coming_is (Some c) = Some (c.zeros, c.positive)
+coming_is None = None
 
 -- a job that a code can tell
 abbrev pub Short : Job → Type 0

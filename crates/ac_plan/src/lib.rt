@@ -15,11 +15,11 @@ pub enum Change {
     Fresh(bool),
 }
 
-// The zeros before the next new value of a block, and its sign; or no new value is left.
+// The next new value of a block: the zeros before it, and its sign.
 #[derive(Clone, Copy)]
-pub enum Coming {
-    Value(usize, bool),
-    Quiet,
+pub struct Coming {
+    pub zeros: usize,
+    pub positive: bool,
 }
 
 // "against their halves (.. AC toward zero)"
@@ -49,7 +49,7 @@ fn zero_is(value: i32) -> usize
 }
 
 // The next new value of a block, from a position on.
-pub fn ahead_of(block: &[i32], from: usize) -> Coming
+pub fn ahead_of(block: &[i32], from: usize) -> Option<Coming>
     ensures { coming_is result ≡ written.ahead (kinds_from block.now from) }
 {
     let mut zeros = 0;
@@ -57,15 +57,21 @@ pub fn ahead_of(block: &[i32], from: usize) -> Coming
     while i < block.len() {
         let value = block[i];
         if value == 1 {
-            return Coming::Value(zeros, true);
+            return Some(Coming {
+                zeros,
+                positive: true,
+            });
         }
         if value == -1 {
-            return Coming::Value(zeros, false);
+            return Some(Coming {
+                zeros,
+                positive: false,
+            });
         }
         zeros += zero_is(value);
         i += 1;
     }
-    Coming::Quiet
+    None
 }
 
 // How many blocks, from the first on, have no new value.
@@ -77,7 +83,7 @@ fn quiet_of(later: &[i32], blocks: usize) -> usize
     while n < blocks {
         let at = 63 * n;
         let end = at + 63;
-        if let Coming::Value(_, _) = ahead_of(&later[at..end], 0) {
+        if let Some(_) = ahead_of(&later[at..end], 0) {
             return n;
         }
         n += 1;
@@ -91,8 +97,8 @@ pub fn plan(block: &[i32], i: usize, later: &[i32], blocks: usize) -> Job
     ensures { Planned result (written.plan (kinds_from block.now i) (kind_blocks blocks later.now)) }
 {
     match ahead_of(block, i) {
-        Coming::Quiet => Job::Ended(quiet_of(later, blocks)),
-        Coming::Value(zeros, positive) => {
+        None => Job::Ended(quiet_of(later, blocks)),
+        Some(Coming { zeros, positive }) => {
             if zeros < 16 {
                 return Job::Set(zeros, positive);
             }

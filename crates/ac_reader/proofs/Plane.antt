@@ -1,8 +1,9 @@
 -- The loop over the blocks of a plane: what is left to read, behind the values read so far, is the whole. Assumes nothing.
+use Rattle.ac_tasks.specs.declared.Job.{Job}
 use mathlib.Core.Path.{◌≡◌, refl, sym, ap, subst, ◌∙◌}
 use mathlib.Core.List.{List, [], ◌∷◌, append-nil}
 use mathlib.Core.Logic.{◌⊎◌, inl, inr}
-use mathlib.Core.Option.{none}
+use Rattle.std.specs.Prelude.{Option, None, Ok, Err}
 use Prim.Native.Nat.{ℕ, zero, suc, ◌+◌, ◌-◌, ◌*◌, ◌≤◌, ◌<◌}
 use native.Mathlib.Numerals.{add-one}
 use native.Mathlib.Omega.{arith}
@@ -21,11 +22,8 @@ use Rattle.bit_rules.specs.Table.{Table}
 use Rattle.plane_rules.specs.Plane.{Plane, read, onto}
 use Rattle.plane_rules.specs.AcRead.{ac_block, ac_blocks, cut}
 use Rattle.planes.specs.Code.{plane_of, Ran, Small}
-use Rattle.planes.specs.declared.Blocks.TheVariants.{Read, Refused}
 use Rattle.planes.proofs.Onto.{onto_none, onto_onto}
 use Rattle.ac_tasks.specs.Code.{open_of}
-use Rattle.ac_tasks.specs.declared.Open.{Open}
-use Rattle.ac_tasks.specs.declared.Open.TheVariants.{Nothing}
 
 cut_length : (n : ℕ) (values : List ℤ) → length (cut n values) ≡ n
 unfolding cut
@@ -33,21 +31,21 @@ cut_length zero values = refl
 cut_length (suc n) values = ap suc (cut_length n (drop 63 values))
 
 -- behind so many blocks
-pub record Behind (bytes : List ℕ) (T : Table) (blocks : ℕ) (values before now : List ℤ) (task : Open) (c : Cursor) (block at : ℕ) : Type 0 where
+pub record Behind (bytes : List ℕ) (T : Table) (blocks : ℕ) (values before now : List ℤ) (task : Option Job) (c : Cursor) (block at : ℕ) : Type 0 where
   pub within : block ≤ blocks
   pub place : at ≡ 63 * block
   pub long : length now ≡ length before
   pub rest : drop at now ≡ drop at before
-  pub same : onto (take at now) (ac_blocks T block (open_of task) (cut (blocks - block) (drop at values)) (source_of bytes c)) ≡ ac_blocks T 0 none (cut blocks values) (start bytes)
+  pub same : onto (take at now) (ac_blocks T block (open_of task) (cut (blocks - block) (drop at values)) (source_of bytes c)) ≡ ac_blocks T 0 None (cut blocks values) (start bytes)
 
-pub behind_none : {bytes : List ℕ} {T : Table} {blocks : ℕ} {values before : List ℤ} → Behind bytes T blocks values before before Nothing unread 0 0
-behind_none {bytes} {T} {blocks} {values} = let z : blocks - 0 ≡ blocks = omega arith in record { within = omega arith; place = omega arith; long = refl; rest = refl; same = rw (z, start_source bytes) (onto_none (ac_blocks T 0 none (cut blocks values) (start bytes))) }
+pub behind_none : {bytes : List ℕ} {T : Table} {blocks : ℕ} {values before : List ℤ} → Behind bytes T blocks values before before None unread 0 0
+behind_none {bytes} {T} {blocks} {values} = let z : blocks - 0 ≡ blocks = omega arith in record { within = omega arith; place = omega arith; long = refl; rest = refl; same = rw (z, start_source bytes) (onto_none (ac_blocks T 0 None (cut blocks values) (start bytes))) }
 
-module _ {bytes : List ℕ} {T : Table} {blocks : ℕ} {values before now : List ℤ} {task : Open} {c : Cursor} {block at : ℕ} (a : Behind bytes T blocks values before now task c block at) where
+module _ {bytes : List ℕ} {T : Table} {blocks : ℕ} {values before now : List ℤ} {task : (Option Job)} {c : Cursor} {block at : ℕ} (a : Behind bytes T blocks values before now task c block at) where
   abbrev whole : Plane
-  whole = ac_blocks T 0 none (cut blocks values) (start bytes)
+  whole = ac_blocks T 0 None (cut blocks values) (start bytes)
 
-  pub behind_all : blocks ≤ block → Ran bytes (63 * blocks) whole before now (Read c)
+  pub behind_all : blocks ≤ block → Ran bytes (63 * blocks) whole before now (Ok c)
   unfolding plane_of ac_blocks cut onto
   behind_all h =
       let z : blocks - block ≡ 0 = omega arith in
@@ -82,14 +80,14 @@ module _ {bytes : List ℕ} {T : Table} {blocks : ℕ} {values before now : List
       behind_part = drop_put at (at + 63) now part (omega arith) fits long ∙ drop_later at (at + 63) (omega arith) now before a.rest
 
       pub behind_stopped : {x : Stop} → ac_block T (blocks - block) (open_of task) (take (at + 63 - at) (drop at values)) (source_of bytes c) ≡ stopped x
-          → Ran bytes (63 * blocks) whole before (put_mid at (at + 63 - at) now part) (Refused (refusal_at x.number block x.offset))
+          → Ran bytes (63 * blocks) whole before (put_mid at (at + 63 - at) now part) (Err (refusal_at x.number block x.offset))
       unfolding plane_of ac_blocks onto
       behind_stopped e = record {
         same = rw (next, left, e) at a.same;
         kept = drop_later (at + 63) (63 * blocks) (omega (arith, a.place)) (put_mid at (at + 63 - at) now part) before behind_part;
       }
 
-      pub behind_one : {after : Open} {d : Cursor} → ac_block T (blocks - block) (open_of task) (take (at + 63 - at) (drop at values)) (source_of bytes c) ≡ got (part, open_of after) (source_of bytes d)
+      pub behind_one : {after : (Option Job)} {d : Cursor} → ac_block T (blocks - block) (open_of task) (take (at + 63 - at) (drop at values)) (source_of bytes c) ≡ got (part, open_of after) (source_of bytes d)
           → Behind bytes T blocks values before (put_mid at (at + 63 - at) now part) after d (block + 1) (at + 63)
       unfolding ac_blocks later
       behind_one {after} {d} e = record {

@@ -1,7 +1,7 @@
 -- The loop over the positions of a block: what is left to read, behind the values read so far, is the whole. Assumes nothing.
 use mathlib.Core.Path.{◌≡◌, refl, sym, ap, ◌∙◌}
 use mathlib.Core.List.{List, [], ◌∷◌, ◌++◌, append-nil}
-use mathlib.Core.Option.{Option, none, some}
+use Rattle.std.specs.Prelude.{Option, Some, None}
 use mathlib.Core.Bool.{Bool}
 use Prim.Native.Nat.{ℕ, zero, suc, ◌+◌, ◌-◌, ◌≤◌, ◌<◌}
 use native.Mathlib.Numerals.{add-one}
@@ -58,11 +58,11 @@ module _ {bytes : List ℕ} {T : Table} {left : ℕ} {values now : List ℤ} {o�
     at_asked_stopped e = rw (next, e) at a.same
 
     -- a code was read: its task is open, and nothing else has changed
-    pub at_asked : {t : Task} {d : Cursor} → task_at T left o (source_of bytes c) ≡ got t (source_of bytes d) → At bytes T left values now o₀ (some t) c₀ d i
+    pub at_asked : {t : Task} {d : Cursor} → task_at T left o (source_of bytes c) ≡ got t (source_of bytes d) → At bytes T left values now o₀ (Some t) c₀ d i
     unfolding ac_block task_at
     at_asked e = record { within = a.within; long = a.long; same = rw next (rw (next, e) at a.same) }
 
-    module _ {t : Task} (e : o ≡ some t) where
+    module _ {t : Task} (e : o ≡ Some t) where
       pub at_turn_stopped : {x : Stop} → position t (get_or values i (pos 0)) (source_of bytes c) ≡ stopped x → stopped x ≡ ac_block T left o₀ values (source_of bytes c₀)
       unfolding ac_block task_at in_front
       at_turn_stopped q = rw (next, e, q) at a.same
@@ -85,9 +85,9 @@ module _ {bytes : List ℕ} {T : Table} {left : ℕ} {values now : List ℤ} {o�
 pub carries_none : {bytes : List ℕ} {values before : List ℤ} {o : Option Task} {c : Cursor} {i : ℕ} → Carries bytes values before before o o c c i i
 carries_none = record { long = λ l. l; same = λ T left o₀ c₀ a. a }
 
-module _ {bytes : List ℕ} {values before now : List ℤ} {o : Option Task} {t : Task} {c d : Cursor} {i j : ℕ} (k : Carries bytes values before now o (some t) c d i j) where
+module _ {bytes : List ℕ} {values before now : List ℤ} {o : Option Task} {t : Task} {c d : Cursor} {i j : ℕ} (k : Carries bytes values before now o (Some t) c d i j) where
   -- behind the last position
-  pub carries_end : (r : Block) → length values ≤ j → block_of bytes [] r ≡ block_end (some t) (source_of bytes d) → Closes bytes values before now o c i r
+  pub carries_end : (r : Block) → length values ≤ j → block_of bytes [] r ≡ block_end (Some t) (source_of bytes d) → Closes bytes values before now o c i r
   carries_end r h e = record { same = λ T left o₀ c₀ a. at_end (k.same T left o₀ c₀ a) r h e }
 
   module _ (h : j < length values) where
@@ -103,25 +103,25 @@ module _ {bytes : List ℕ} {values before now : List ℤ} {o : Option Task} {t 
       carries_stopped {m} {g} e = record { same = λ T left o₀ c₀ a. at_turn_stopped (k.same T left o₀ c₀ a) h refl (at_value t _ _ (stopped (stop m g.last)) n e) }
 
       pub carries_fixed : {v : ℤ} {g : Cursor} → fixing (get_or values j (pos 0)) (take_bit (source_of bytes d)) ≡ got v (source_of bytes g)
-          → Carries bytes values before (set now j v) o (some t) c g i (j + 1)
+          → Carries bytes values before (set now j v) o (Some t) c g i (j + 1)
       unfolding stays
       carries_fixed {v} {g} e = record { long = λ l. length-set now j v ∙ k.long l; same = λ T left o₀ c₀ a. at_turn (k.same T left o₀ c₀ a) h refl (at_value t _ _ (got v (source_of bytes g)) n e) }
 
 -- ---- a walk
 
 module _ {bytes : List ℕ} {values before now : List ℤ} {o : Option Task} {s : Option Bool} {c d : Cursor} {i j : ℕ} where
-  pub carries_past : {m : ℕ} → Carries bytes values before now o (some (walk m s)) c d i j → length values ≤ j → Closes bytes values before now o c i (Stopped 16 d)
+  pub carries_past : {m : ℕ} → Carries bytes values before now o (Some (walk m s)) c d i j → length values ≤ j → Closes bytes values before now o c i (Stopped 16 d)
   unfolding block_of block_end source_of
   carries_past k h = carries_end k (Stopped 16 d) h refl
 
-  pub carries_passed : (m : ℕ) → Carries bytes values before now o (some (walk m s)) c d i j → j < length values → get_or values j (pos 0) ≡ pos 0 → (m ≡ 0 → ⊥)
-      → Carries bytes values before (set now j (pos 0)) o (some (walk (m - 1) s)) c d i (j + 1)
+  pub carries_passed : (m : ℕ) → Carries bytes values before now o (Some (walk m s)) c d i j → j < length values → get_or values j (pos 0) ≡ pos 0 → (m ≡ 0 → ⊥)
+      → Carries bytes values before (set now j (pos 0)) o (Some (walk (m - 1) s)) c d i (j + 1)
   carries_passed zero k h z n = absurd (n refl)
   carries_passed (suc m) k h z n = let q : suc m - 1 ≡ m = omega arith in rw q (carries_zero k h z)
 
 pub carries_landed : {bytes : List ℕ} {values before now : List ℤ} {o : Option Task} {c d : Cursor} {i j : ℕ} (m : ℕ) (leave sign : Bool)
-    → Carries bytes values before now o (some (walk m (aim leave sign))) c d i j → j < length values → get_or values j (pos 0) ≡ pos 0 → m ≡ 0
-    → Carries bytes values before (set now j (aimed leave sign)) o none c d i (j + 1)
+    → Carries bytes values before now o (Some (walk m (aim leave sign))) c d i j → j < length values → get_or values j (pos 0) ≡ pos 0 → m ≡ 0
+    → Carries bytes values before (set now j (aimed leave sign)) o None c d i (j + 1)
 carries_landed {bytes} {values} {before} {now} {o} {c} {d} {i} {j} m leave sign k h z e =
-    let k' : Carries bytes values before now o (some (walk 0 (aim leave sign))) c d i j = rw e at k in
+    let k' : Carries bytes values before now o (Some (walk 0 (aim leave sign))) c d i j = rw e at k in
     rw ((landed leave sign).0, (landed leave sign).1) at (carries_zero k' h z)

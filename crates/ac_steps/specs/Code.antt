@@ -1,6 +1,5 @@
 -- What the code's steps through a block stand for: a task carried out from a position on.
-use Rattle.std.specs.Prelude.{◌≡◌, List, ◌++◌, ℕ, ◌≤◌, ◌<◌, ℤ, length, take, drop}
-use Rattle.std.proofs.Math.Option.{Option, none}
+use Rattle.std.specs.Prelude.{◌≡◌, List, ◌++◌, ℕ, ◌≤◌, ◌<◌, ℤ, length, take, drop, Option, None}
 use Rattle.bit_rules.specs.Source.{Out, got, stopped}
 use Rattle.bits.specs.Code.{source_of}
 use Rattle.bits.specs.declared.Cursor.{Cursor}
@@ -34,5 +33,5 @@ pub record Closes (bytes : List ℕ) (values before now : List ℤ) (o : Option 
       → block_of bytes now r ≡ ac_block T left o₀ values (source_of bytes c₀)
 
 abbrev pub Steps : List ℕ → List ℤ → List ℤ → List ℤ → Option Task → Cursor → ℕ → Step → Type 0
-Steps bytes values before now o c i (On d j) = Carries bytes values before now o none c d i j × (i < j)
+Steps bytes values before now o c i (On d j) = Carries bytes values before now o None c d i j × (i < j)
 Steps bytes values before now o c i (Over r) = Closes bytes values before now o c i r

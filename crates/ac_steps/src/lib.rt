@@ -1,15 +1,14 @@
 // What a task of an AC plane does at the positions of a block, in reading: corrections, zeros, and the zero behind them (docs/RULES.md, R6 to R13).
 #![tactic(auto)]
 
-ghost use Rattle.std.specs.Prelude.{◌≡◌, ◌≤◌, length};
-ghost use Rattle.std.proofs.Math.Option.{some};
+ghost use Rattle.std.specs.Prelude.{◌≡◌, ◌≤◌, length, Some};
 ghost use Rattle.planes.specs.Code.{Small};
 ghost use Rattle.plane_rules.specs.Task as task;
 ghost use Rattle.ac_tasks.specs.Code.{task_of};
 ghost use Rattle.ac_values.specs.Code.{aim};
 ghost use Rattle.ac_steps.specs.Code.{Steps};
 
-use ac_tasks::{Block, Job, Open};
+use ac_tasks::{Block, Job};
 use ac_values::Fixed;
 use bits::Cursor;
 
@@ -34,7 +33,7 @@ fn walk(
     requires small { Small values.now }
     requires destination_len { (length destination.old ≡ length values.now) × (from ≤ length values.now) }
     ensures { Steps «data».now values.now
-        destination.old destination.new (some (task.walk zeros (aim leave sign))) c from result }
+        destination.old destination.new (Some (task.walk zeros (aim leave sign))) c from result }
 {
     let mut cursor = c;
     let mut n = zeros;
@@ -75,7 +74,7 @@ fn rest(
 ) -> Step
     requires small { Small values.now }
     requires destination_len { (length destination.old ≡ length values.now) × (from ≤ length values.now) }
-    ensures { Steps «data».now values.now destination.old destination.new (some (task.ended n)) c from result }
+    ensures { Steps «data».now values.now destination.old destination.new (Some (task.ended n)) c from result }
 {
     let mut cursor = c;
     let mut i = from;
@@ -96,7 +95,7 @@ fn rest(
             }
         }
     }
-    Step::Out(ac_tasks::block_end(Open::Doing(Job::Ended(n)), cursor))
+    Step::Out(ac_tasks::block_end(Some(Job::Ended(n)), cursor))
 }
 
 // A task from a position on.
@@ -110,7 +109,7 @@ pub fn do_job(
 ) -> Step
     requires small { Small values.now }
     requires destination_len { (length destination.old ≡ length values.now) × (from ≤ length values.now) }
-    ensures { Steps «data».now values.now destination.old destination.new (some (task_of job)) c from result }
+    ensures { Steps «data».now values.now destination.old destination.new (Some (task_of job)) c from result }
 {
     match job {
         Job::Leave(n) => walk(data, c, n, true, false, from, values, destination),

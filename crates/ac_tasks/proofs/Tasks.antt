@@ -1,7 +1,7 @@
 -- What the code's answers on tasks are worth, case by case, in the terms that its tests leave. Assumes nothing.
 use mathlib.Core.Path.{◌≡◌, refl, sym, ap, ◌∙◌}
 use mathlib.Core.Bool.{Bool, true, false}
-use mathlib.Core.Option.{Option, some}
+use Rattle.std.specs.Prelude.{Option, Some, None}
 use Prim.Native.Nat.{ℕ, zero, suc, ◌+◌, ◌-◌, ◌*◌, ◌%◌, ◌^◌, ◌≤◌, ◌<◌}
 use native.Mathlib.Numerals.{sub-one}
 use native.Mathlib.Omega.{arith}
@@ -16,30 +16,28 @@ use Rattle.plane_rules.specs.AcRead.{meaning, block_end}
 use Rattle.ac_tasks.specs.Code.{task_of, open_of, block_of, BlockEnds}
 use Rattle.ac_tasks.specs.declared.Job.{Job}
 use Rattle.ac_tasks.specs.declared.Job.TheVariants.{Ended}
-use Rattle.ac_tasks.specs.declared.Open.{Open}
-use Rattle.ac_tasks.specs.declared.Open.TheVariants.{Nothing, Doing}
 use Rattle.ac_tasks.specs.declared.Block.TheVariants.{Done, Stopped}
 use Rattle.ac_tasks.proofs.Numbers.{moved_one}
 
 -- ---- what is left of an end run behind a block
 
-pub over_on : (n : ℕ) → (n ≡ 0 → ⊥) → some (ended (n - 1)) ≡ over (some (ended n))
+pub over_on : (n : ℕ) → (n ≡ 0 → ⊥) → Some (ended (n - 1)) ≡ over (Some (ended n))
 over_on zero h = absurd (h refl)
 over_on (suc n) h = rw sub-one
 
 -- ---- the end of a block
 
-module _ {task : Open} {c : Cursor} where
-  pub ends_none : task ≡ Nothing → BlockEnds task c (Done c Nothing)
+module _ {task : (Option Job)} {c : Cursor} where
+  pub ends_none : task ≡ None → BlockEnds task c (Done c None)
   unfolding block_end block_of
   ends_none e = rw e (record { same = λ bytes. refl })
 
-  module _ {job : Job} (e : task ≡ Doing job) where
+  module _ {job : Job} (e : task ≡ Some job) where
     pub ends_walk : {n : ℕ} {sign : Option Bool} → task_of job ≡ walk n sign → BlockEnds task c (Stopped 16 c)
     unfolding block_end block_of source_of
     ends_walk q = record { same = λ bytes. rw (e, q) }
 
-    pub ends_run : {n : ℕ} {next : Open} → job ≡ Ended n → open_of next ≡ over (open_of (Doing job)) → BlockEnds task c (Done c next)
+    pub ends_run : {n : ℕ} {next : (Option Job)} → job ≡ Ended n → open_of next ≡ over (open_of (Some job)) → BlockEnds task c (Done c next)
     unfolding block_end block_of
     ends_run q f = record { same = λ bytes. rw (e, f, q) }
 

@@ -1,6 +1,5 @@
 -- What the code's tasks and answers stand for.
-use Rattle.std.specs.Prelude.{◌≡◌, List, [], ℕ, ◌^◌, ◌<◌, ℤ}
-use Rattle.std.proofs.Math.Option.{Option, none, some}
+use Rattle.std.specs.Prelude.{◌≡◌, List, [], ℕ, ◌^◌, ◌<◌, ℤ, Option, Some, None}
 use Rattle.bit_rules.specs.Source.{Out, got, stopped, stop}
 use Rattle.bits.specs.Code.{source_of}
 use Rattle.bits.specs.declared.Cursor.{Cursor}
@@ -9,8 +8,6 @@ use Rattle.bit_rules.specs.Number.{take_number}
 use Rattle.plane_rules.specs.AcRead.{block_end}
 use Rattle.ac_tasks.specs.declared.Job.{Job}
 use Rattle.ac_tasks.specs.declared.Job.TheVariants.{Leave, Set, Ended}
-use Rattle.ac_tasks.specs.declared.Open.{Open}
-use Rattle.ac_tasks.specs.declared.Open.TheVariants.{Nothing, Doing}
 use Rattle.ac_tasks.specs.declared.Number.{Number}
 use Rattle.ac_tasks.specs.declared.Number.TheVariants.{Is}
 use Rattle.ac_tasks.specs.declared.Asked.{Asked}
@@ -19,13 +16,13 @@ use Rattle.ac_tasks.specs.declared.Block.{Block}
 use Rattle.ac_tasks.specs.declared.Block.TheVariants.{Done}
 
 abbrev pub task_of : Job → Task
-task_of (Leave n) = walk n none
-task_of (Set n sign) = walk n (some sign)
+task_of (Leave n) = walk n None
+task_of (Set n sign) = walk n (Some sign)
 task_of (Ended n) = ended n
 
-abbrev pub open_of : Open → Option Task
-open_of Nothing = none
-open_of (Doing job) = some (task_of job)
+abbrev pub open_of : Option Job → Option Task
+open_of None = None
+open_of (Some job) = Some (task_of job)
 
 unfoldable pub number_of : List ℕ → Number → Out ℕ
 number_of bytes (Is c v) = got v (source_of bytes c)
@@ -46,5 +43,5 @@ pub record Counts (bytes : List ℕ) (n : ℕ) (c : Cursor) (r : Number) : Type 
   pub small : (v : ℕ) (d : Cursor) → r ≡ Is d v → v < 2 ^ n
 
 -- at the end of a block no bit is taken, whatever the data
-pub record BlockEnds (task : Open) (c : Cursor) (r : Block) : Type 0 where
+pub record BlockEnds (task : Option Job) (c : Cursor) (r : Block) : Type 0 where
   pub same : (bytes : List ℕ) → block_of bytes [] r ≡ block_end (open_of task) (source_of bytes c)

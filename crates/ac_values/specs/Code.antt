@@ -1,6 +1,5 @@
 -- What the code's answer for one value stands for: a value corrected by a bit, and what the zero behind a walk becomes.
-use Rattle.std.specs.Prelude.{Bool, true, false, List, ℕ, ℤ, pos}
-use Rattle.std.proofs.Math.Option.{Option, none, some}
+use Rattle.std.specs.Prelude.{Bool, true, false, List, ℕ, ℤ, pos, Option, Some, None}
 use Rattle.bit_rules.specs.Source.{Out, got, stopped, stop}
 use Rattle.bit_rules.specs.Reader.{and_then, done}
 use Rattle.bits.specs.Code.{source_of}
@@ -19,8 +18,8 @@ fixing value o = and_then (λ (b : Bool). done (corrected value b)) o
 
 -- the sign that a walk sets: none where the zero is left
 abbrev pub aim : Bool → Bool → Option Bool
-aim true sign = none
-aim false sign = some sign
+aim true sign = None
+aim false sign = Some sign
 
 -- and what the zero becomes
 abbrev pub aimed : Bool → Bool → ℤ

@@ -2,7 +2,7 @@
 use mathlib.Core.Path.{◌≡◌, ap}
 use mathlib.Core.Bool.{true}
 use mathlib.Core.List.{List, [], ◌∷◌, ◌++◌, map}
-use mathlib.Core.Option.{Option, none, some}
+use Rattle.std.specs.Prelude.{Option, Some, None}
 use Prim.Native.Nat.{ℕ, zero, suc, ◌*◌, ◌≤◌}
 use native.Mathlib.Omega.{arith}
 use lib.IntN.{ℤ}
@@ -17,8 +17,8 @@ use Rattle.ac_pen.proofs.Lengths.{emit_length}
 module _ (T : Table) (g : good_table T ≡ true) where
   pub tell_length : (o : Option Task) (t : Task) → length (spelled T (tell o t)) ≤ 30
   unfolding spelled
-  tell_length none t = emit_length T g t
-  tell_length (some u) t = omega arith
+  tell_length None t = emit_length T g t
+  tell_length (Some u) t = omega arith
 
   mark_length : (x : Kind) → length (spelled T (mark x)) ≤ 1
   unfolding spelled
@@ -62,4 +62,4 @@ module _ (T : Table) (g : good_table T ≡ true) where
 
   pub plane_length : (n : ℕ) (values : List ℤ) → length (spelled T (tokens n values)) ≤ 1953 * n
   unfolding tokens
-  plane_length n values = blocks_length n values none
+  plane_length n values = blocks_length n values None

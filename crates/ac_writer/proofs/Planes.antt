@@ -2,7 +2,7 @@
 use mathlib.Core.Path.{◌≡◌, refl}
 use mathlib.Core.Bool.{true}
 use mathlib.Core.List.{List, [], ◌∷◌, ◌++◌}
-use mathlib.Core.Option.{Option, none}
+use Rattle.std.specs.Prelude.{Option, None}
 use Prim.Native.Nat.{ℕ, ◌+◌, ◌-◌, ◌*◌, ◌^◌, ◌≤◌, ◌<◌}
 use native.Mathlib.Omega.{arith}
 use lib.IntN.{ℤ}
@@ -14,7 +14,6 @@ use Rattle.plane_rules.specs.Task.{Task}
 use Rattle.plane_rules.specs.AcWrite.{Kind, write_block, write_blocks, tokens}
 use Rattle.ac_tasks.specs.Code.{open_of}
 use Rattle.ac_plan.specs.Code.{kinds_from, kind_blocks}
-use Rattle.ac_tasks.specs.declared.Open.TheVariants.{Nothing}
 use Rattle.ac_plan.proofs.Looking.{blocks_cons, blocks_end, blocks_start}
 use Rattle.ac_pen.specs.Code.{Told}
 use Rattle.ac_pen.proofs.Tokens.{Telling, telling_start, telling_turn, telling_end}
@@ -47,7 +46,7 @@ pub record Running (T : Table) (before memory : List ℕ) (q : State) (blocks : 
   pub within : n ≤ blocks
   pub telling : Telling T before memory new_pen q.pen (write_blocks (open_of q.task) (kind_blocks (blocks - n) (drop (63 * n) values))) (tokens blocks values)
 
-all_tokens : (blocks : ℕ) (values : List ℤ) → write_blocks none (kind_blocks blocks values) ≡ tokens blocks values
+all_tokens : (blocks : ℕ) (values : List ℤ) → write_blocks None (kind_blocks blocks values) ≡ tokens blocks values
 unfolding tokens kind_blocks
 all_tokens blocks values = refl
 
@@ -61,7 +60,7 @@ unfolding write_blocks
 plane_none o all e = rw e
 
 module _ {T : Table} {before : List ℕ} (blocks : ℕ) (values : List ℤ) where
-  pub run_start : Running T before before (record { pen = new_pen; task = Nothing }) blocks values 0
+  pub run_start : Running T before before (record { pen = new_pen; task = None }) blocks values 0
   run_start = record {
     within = omega arith;
     telling = rw (blocks_start blocks values, all_tokens blocks values) (telling_start new_sound);

@@ -2,7 +2,7 @@
 use mathlib.Core.Path.{◌≡◌, refl, sym, ap, ◌∙◌}
 use mathlib.Core.Bool.{Bool, true}
 use mathlib.Core.List.{List, [], ◌∷◌, ◌++◌, map}
-use mathlib.Core.Option.{Option, none, some}
+use Rattle.std.specs.Prelude.{Option, Some, None}
 use Prim.Native.Nat.{ℕ, zero, suc, ◌+◌, ◌-◌, ◌^◌, ◌≤◌, ◌<◌}
 use native.Mathlib.Omega.{arith}
 use lib.IntN.{ℤ, pos}
@@ -15,8 +15,6 @@ use Rattle.plane_rules.specs.Task.{Task, walk, pass, over}
 use Rattle.plane_rules.specs.AcWrite.{Kind, keep, still, fresh, Token, raw, kind_of, plan, emit, choose, tell, write_block}
 use Rattle.ac_tasks.specs.Code.{task_of, open_of}
 use Rattle.ac_tasks.specs.declared.Job.{Job}
-use Rattle.ac_tasks.specs.declared.Open.{Open}
-use Rattle.ac_tasks.specs.declared.Open.TheVariants.{Nothing, Doing}
 use Rattle.ac_plan.specs.Code.{kinds_from, kind_is, Planned}
 use Rattle.ac_plan.specs.declared.Change.{Change}
 use Rattle.ac_plan.specs.declared.Change.TheVariants.{Kept, Still, Fresh}
@@ -34,11 +32,11 @@ use Rattle.ac_writer.proofs.Lengths.{tell_length, block_length}
 
 module _ {T : Table} {before : List ℕ} {s : State} (kinds : List Kind) (later : List (List Kind)) where
   -- a task is open
-  pub begins_open : {job : Job} → s.task ≡ Doing job → Sound s.pen.putter → Begins T before before s (record { pen = s.pen; job = job }) kinds later
+  pub begins_open : {job : Job} → s.task ≡ Some job → Sound s.pen.putter → Begins T before before s (record { pen = s.pen; job = job }) kinds later
   begins_open e h = record { job = rw e; told = rw e (told_none h) }
 
   -- a code is needed
-  pub begins_need : {after : List ℕ} {job : Job} {p : Pen} → s.task ≡ Nothing → Planned job (plan kinds later) → Told T before after s.pen p (emit (task_of job))
+  pub begins_need : {after : List ℕ} {job : Job} {p : Pen} → s.task ≡ None → Planned job (plan kinds later) → Told T before after s.pen p (emit (task_of job))
       → Begins T before after s (record { pen = p; job = job }) kinds later
   begins_need e h f = record { job = rw e h.same; told = rw e (rw h.same at f) }
 
@@ -51,21 +49,21 @@ module _ {T : Table} {before : List ℕ} {s : State} (kinds : List Kind) (later 
 
 -- what a task comes to at a position
 open_kept : (t : Task) (b : Bool) (all kinds : List Kind) (later : List (List Kind)) → all ≡ keep b ∷ kinds
-    → write_block (some t) all later ≡ (raw b ∷ (write_block (some t) kinds later).0, (write_block (some t) kinds later).1)
+    → write_block (Some t) all later ≡ (raw b ∷ (write_block (Some t) kinds later).0, (write_block (Some t) kinds later).1)
 unfolding write_block
 open_kept t b all kinds later e = rw e
 
-open_still : (t : Task) (all kinds : List Kind) (later : List (List Kind)) → all ≡ still ∷ kinds → write_block (some t) all later ≡ write_block (pass t) kinds later
+open_still : (t : Task) (all kinds : List Kind) (later : List (List Kind)) → all ≡ still ∷ kinds → write_block (Some t) all later ≡ write_block (pass t) kinds later
 unfolding write_block
 open_still t all kinds later e = rw e
 
-open_fresh : (t : Task) (b : Bool) (all kinds : List Kind) (later : List (List Kind)) → all ≡ fresh b ∷ kinds → write_block (some t) all later ≡ write_block (pass t) kinds later
+open_fresh : (t : Task) (b : Bool) (all kinds : List Kind) (later : List (List Kind)) → all ≡ fresh b ∷ kinds → write_block (Some t) all later ≡ write_block (pass t) kinds later
 unfolding write_block
 open_fresh t b all kinds later e = rw e
 
 -- a code is told first, where none is open
 open_told : (o : Option Task) (x : Kind) (all kinds : List Kind) (later : List (List Kind)) → all ≡ x ∷ kinds
-    → write_block o all later ≡ (tell o (choose o all later) ++ (write_block (some (choose o all later)) all later).0, (write_block (some (choose o all later)) all later).1)
+    → write_block o all later ≡ (tell o (choose o all later) ++ (write_block (Some (choose o all later)) all later).0, (write_block (Some (choose o all later)) all later).1)
 unfolding write_block
 open_told o x all kinds later e = rw e
 
@@ -87,21 +85,21 @@ module _ {before after : List ℕ} {p r : Putter} {block : List ℤ} {o : Option
   carries_near k h l n = (k.put.sound, omega (arith, k.put.near, k.few))
 
   -- behind the block, whatever walk is open comes to nothing
-  pub carries_past : {n : ℕ} {sign : Option Bool} → Carries before after p r block o (some (walk n sign)) i j → length block ≤ j → Carries before after p r block o none i j
+  pub carries_past : {n : ℕ} {sign : Option Bool} → Carries before after p r block o (Some (walk n sign)) i j → length block ≤ j → Carries before after p r block o None i j
   carries_past {n} {sign} k h = record {
     bits = k.bits;
     put = k.put;
     few = k.few;
     same = λ later.
-        rw (block_none none (kinds_from block j) later (kinds_end block j h))
-        (rw (block_none (some (walk n sign)) (kinds_from block j) later (kinds_end block j h)) at (k.same later));
+        rw (block_none None (kinds_from block j) later (kinds_end block j h))
+        (rw (block_none (Some (walk n sign)) (kinds_from block j) later (kinds_end block j h)) at (k.same later));
   }
 
-  module _ {t : Task} (k : Carries before after p r block o (some t) i j) (h : j < length block) {change : Change} (e : kind_is change ≡ kind_of (get_or block j (pos 0))) where
+  module _ {t : Task} (k : Carries before after p r block o (Some t) i j) (h : j < length block) {change : Change} (e : kind_is change ≡ kind_of (get_or block j (pos 0))) where
     here : {d : Change} → change ≡ d → kinds_from block j ≡ kind_is d ∷ kinds_from block (j + 1)
     here q = kinds_cons block j h ∙ ap (λ (x : Kind). x ∷ kinds_from block (j + 1)) (sym e ∙ ap kind_is q)
 
-    pub carries_kept : {last : List ℕ} {q : Putter} {b : Bool} → change ≡ Kept b → Puts after last r q (b ∷ []) → Carries before last p q block o (some t) i (j + 1)
+    pub carries_kept : {last : List ℕ} {q : Putter} {b : Bool} → change ≡ Kept b → Puts after last r q (b ∷ []) → Carries before last p q block o (Some t) i (j + 1)
     unfolding kind_is
     carries_kept {last} {q} {b} c f = record {
       bits = k.bits ++ (b ∷ []);
@@ -110,7 +108,7 @@ module _ {before after : List ℕ} {p r : Putter} {block : List ℤ} {o : Option
       same = λ later.
           k.same later
           ∙ ap (λ (x : List Token × Option Task). (map raw k.bits ++ x.0, x.1)) (open_kept t b (kinds_from block j) (kinds_from block (j + 1)) later (here c))
-          ∙ ap (λ (l : List Token). (l, (write_block (some t) (kinds_from block (j + 1)) later).1)) (sym (raw_append k.bits (b ∷ []) (write_block (some t) (kinds_from block (j + 1)) later).0));
+          ∙ ap (λ (l : List Token). (l, (write_block (Some t) (kinds_from block (j + 1)) later).1)) (sym (raw_append k.bits (b ∷ []) (write_block (Some t) (kinds_from block (j + 1)) later).0));
     }
 
     pub carries_still : change ≡ Still → Carries before after p r block o (pass t) i (j + 1)
@@ -133,12 +131,12 @@ module _ {before after : List ℕ} {p r : Putter} {block : List ℤ} {o : Option
 
 -- the walk's count, one less or done
 pub walked : {before after : List ℕ} {p r : Putter} {block : List ℤ} {o : Option Task} {i j : ℕ} (n : ℕ) (sign : Option Bool)
-    → Carries before after p r block o (pass (walk n sign)) i j → (n ≡ 0 → ⊥) → Carries before after p r block o (some (walk (n - 1) sign)) i j
+    → Carries before after p r block o (pass (walk n sign)) i j → (n ≡ 0 → ⊥) → Carries before after p r block o (Some (walk (n - 1) sign)) i j
 walked zero sign k h = absurd (h refl)
 walked (suc n) sign k h = let q : suc n - 1 ≡ n = omega arith in rw q k
 
 pub landed : {before after : List ℕ} {p r : Putter} {block : List ℤ} {o : Option Task} {i j : ℕ} (n : ℕ) (sign : Option Bool)
-    → Carries before after p r block o (pass (walk n sign)) i j → n ≡ 0 → Carries before after p r block o none i j
+    → Carries before after p r block o (pass (walk n sign)) i j → n ≡ 0 → Carries before after p r block o None i j
 landed zero sign k h = k
 landed (suc n) sign k h = absurd (omega arith)
 
@@ -180,7 +178,7 @@ module _ {T : Table} {before : List ℕ} {s : State} (block : List ℤ) (later :
           task = sym (ap (λ (x : List Token × Option Task). x.1) e) ∙ w.task;
         }
 
-    pub walk_end : {j : Open} → length block ≤ i → open_of j ≡ over (open_of q.task)
+    pub walk_end : {j : (Option Job)} → length block ≤ i → open_of j ≡ over (open_of q.task)
         → Moves T before memory s (record { pen = q.pen; task = j }) (write_block (open_of s.task) (kinds_from block 0) later)
     walk_end h e =
         let n = block_none (open_of q.task) (kinds_from block i) later (kinds_end block i h) in

@@ -1,7 +1,5 @@
 -- What the code's state stands for, and what it means that a task was begun and carried out.
-use Rattle.std.specs.Prelude.{◌≡◌, Bool, List, ◌++◌, map, ℕ, ◌+◌, ◌≤◌, ◌<◌, ℤ, length}
-use Rattle.std.proofs.Math.Option.{Option, some}
-use Rattle.laws.specs.declared.Found.TheVariants.{Nothing}
+use Rattle.std.specs.Prelude.{◌≡◌, Bool, List, ◌++◌, map, ℕ, ◌+◌, ◌≤◌, ◌<◌, ℤ, length, Option, Some, None}
 use Rattle.bit_putter.specs.Code.{new_putter, Puts}
 use Rattle.bit_rules.specs.Table.{Table}
 use Rattle.plane_rules.specs.Task.{Task}
@@ -17,7 +15,7 @@ use Rattle.ac_writer.specs.declared.Moved.{Moved}
 
 -- a pen that has told nothing
 abbrev pub new_pen : Pen
-new_pen = record { putter = new_putter; lack = Nothing }
+new_pen = record { putter = new_putter; lack = None }
 
 -- the task at a position was chosen, and told if none was open
 pub record Begins (T : Table) (before after : List ℕ) (s : State) (r : Begun) (kinds : List Kind) (later : List (List Kind)) : Type 0 where
@@ -34,7 +32,7 @@ pub record Carries (before after : List ℕ) (p r : Putter) (block : List ℤ) (
 
 -- the same of a pen and a task
 pub record Works (before after : List ℕ) (p : Pen) (t : Task) (from : ℕ) (block : List ℤ) (r : Moved) : Type 0 where
-  pub carried : Carries before after p.putter r.pen.putter block (some t) (open_of r.task) from r.at
+  pub carried : Carries before after p.putter r.pen.putter block (Some t) (open_of r.task) from r.at
   pub lack : r.pen.lack ≡ p.lack
   pub on : from < r.at
 

@@ -1,7 +1,7 @@
 // AC planes written (docs/RULES.md, E1 to E11): one pass through the blocks, position by position.
 #![tactic(auto)]
 
-ghost use Rattle.std.specs.Prelude.{◌≡◌, Bool, true, ℕ, ◌+◌, ◌*◌, ◌^◌, ◌≤◌, ◌<◌, length};
+ghost use Rattle.std.specs.Prelude.{◌≡◌, Bool, true, ℕ, ◌+◌, ◌*◌, ◌^◌, ◌≤◌, ◌<◌, length, Option, None, Some};
 ghost use Rattle.answers.specs.Verdict.{unless, fitting, Meets, Tried};
 ghost use Rattle.bit_putter.specs.Code.{Sound};
 ghost use Rattle.bit_rules.specs.Table.{Table, table, good_table};
@@ -11,21 +11,19 @@ ghost use Rattle.ac_tasks.specs.Code.{task_of, open_of};
 ghost use Rattle.ac_plan.specs.Code.{kinds_from, kind_blocks};
 ghost use Rattle.ac_pen.specs.Code.{PenReady, Coded, Known, Told};
 ghost use Rattle.ac_writer.specs.Code.{new_pen, Begins, Carries, Works, Moves};
-ghost use Rattle.std.proofs.Math.Option.{Option, none, some};
 
 use ac_pen::Pen;
 use ac_plan::Change;
-use ac_tasks::{Job, Open};
-use answers::{Answer, Outcome};
+use ac_tasks::Job;
+use answers::{Answer, Refusal};
 use bit_putter::Putter;
-use laws::Found;
 use levels::Part;
 
 // What goes from position to position: the pen, and the task that is open.
 #[derive(Clone, Copy)]
 pub struct State {
     pub pen: Pen,
-    pub task: Open,
+    pub task: Option<Job>,
 }
 
 // The task at a position, told.
@@ -47,10 +45,10 @@ pub struct Gone {
 pub struct Moved {
     pub pen: Pen,
     pub at: usize,
-    pub task: Open,
+    pub task: Option<Job>,
 }
 
-fn went_on(g: Gone, lack: Found, task: Open) -> Moved
+fn went_on(g: Gone, lack: Option<usize>, task: Option<Job>) -> Moved
     ensures { result ≡ record { pen = record { putter = g.putter; lack = lack }; at = g.at; task = task } }
 {
     let putter = g.putter;
@@ -67,7 +65,7 @@ fn walk(destination: &mut [u8], p: Putter, zeros: usize, from: usize, block: &[i
     requires sound { (Sound p) × (p.at < 2 ^ 61) }
     requires from_in_bounds { (from < length block.now) × (length block.now ≤ 63) }
     ensures { ((sign : Option Bool)
-        → Carries destination.old destination.new p result.putter block.now (some (task.walk zeros sign)) none from result.at)
+        → Carries destination.old destination.new p result.putter block.now (Some (task.walk zeros sign)) None from result.at)
         × (from < result.at) }
 {
     let mut q = p;
@@ -110,7 +108,7 @@ fn rest(destination: &mut [u8], p: Putter, from: usize, block: &[i32]) -> Gone
     requires sound { (Sound p) × (p.at < 2 ^ 61) }
     requires from_in_bounds { (from < length block.now) × (length block.now ≤ 63) }
     ensures { ((n : ℕ)
-        → Carries destination.old destination.new p result.putter block.now (some (task.ended n)) (some (task.ended n)) from result.at)
+        → Carries destination.old destination.new p result.putter block.now (Some (task.ended n)) (Some (task.ended n)) from result.at)
         × (from < result.at) }
 {
     let mut q = p;
@@ -140,15 +138,15 @@ fn do_job(destination: &mut [u8], pen: Pen, job: Job, from: usize, block: &[i32]
     match job {
         Job::Leave(n) => {
             let g = walk(destination, p, n, from, block);
-            went_on(g, lack, Open::Nothing)
+            went_on(g, lack, None)
         }
         Job::Set(n, _) => {
             let g = walk(destination, p, n, from, block);
-            went_on(g, lack, Open::Nothing)
+            went_on(g, lack, None)
         }
         Job::Ended(n) => {
             let g = rest(destination, p, from, block);
-            went_on(g, lack, Open::Doing(Job::Ended(n)))
+            went_on(g, lack, Some(Job::Ended(n)))
         }
     }
 }
@@ -173,8 +171,8 @@ fn begin(
     let pen = state.pen;
     let task = state.task;
     match task {
-        Open::Doing(job) => Begun { pen, job },
-        Open::Nothing => {
+        Some(job) => Begun { pen, job },
+        None => {
             let job = ac_plan::plan(block, i, later, blocks);
             let told = ac_pen::emit(destination, entries, pen, job);
             Begun { pen: told, job }
@@ -237,14 +235,8 @@ fn put_blocks(
         held: 0,
         room: 7,
     };
-    let pen = Pen {
-        putter,
-        lack: Found::Nothing,
-    };
-    let mut s = State {
-        pen,
-        task: Open::Nothing,
-    };
+    let pen = Pen { putter, lack: None };
+    let mut s = State { pen, task: None };
     let entries = code_entries::code_table(counts, codes);
     let mut n = 0;
     while n < blocks {
@@ -271,7 +263,7 @@ fn put_all(
     codes: &[u8],
     values: &[i32],
     blocks: usize,
-) -> Outcome
+) -> Result<usize, Refusal>
     requires codes_value { good_table (table counts.now codes.now) ≡ true }
     requires values_len { (length values.now ≡ 63 * blocks) × (blocks ≤ 1024) }
     ensures { Tried 0 (unless 19 (written.lacking (table counts.now codes.now) (written.tokens blocks values.now))
@@ -280,7 +272,7 @@ fn put_all(
 {
     let pen = put_blocks(destination, counts, codes, values, blocks);
     let lack = pen.lack;
-    if let Found::At(v) = lack {
+    if let Some(v) = lack {
         return answers::refuse(19, v);
     }
     let p = pen.putter;
@@ -288,7 +280,7 @@ fn put_all(
     if destination.len() < count {
         return answers::refuse(9, count);
     }
-    Outcome::Given(count)
+    Ok(count)
 }
 
 // The bytes, or the first refusal.
@@ -299,7 +291,7 @@ fn try_write_ac(
     codes: &[u8],
     values: &[i32],
     destination: &mut [u8],
-) -> Outcome
+) -> Result<usize, Refusal>
     ensures { Tried 0
         (written.write_ac plane blocks (table counts.now codes.now) values.now (length destination.old))
         destination.old destination.new result }
@@ -316,7 +308,7 @@ fn try_write_ac(
     if !codes::good_table(counts, codes) {
         return answers::refuse(10, 0);
     }
-    if let Found::At(i) = levels::first_outside(Part::Ac, plane as usize, values) {
+    if let Some(i) = levels::first_outside(Part::Ac, plane as usize, values) {
         return answers::refuse(11, i);
     }
     put_all(destination, counts, codes, values, blocks)
@@ -336,8 +328,8 @@ pub fn write_ac(
         destination.old destination.new result }
 {
     let o = try_write_ac(plane, blocks, counts, codes, values, destination);
-    if let Outcome::Refused(_) = o {
-        answers::clear_u8(destination);
+    if let Err(_) = o {
+        answers::clear(destination, 0);
         return answers::answer_of(o);
     }
     answers::answer_of(o)

@@ -3,7 +3,7 @@ use mathlib.Core.Path.{◌≡◌, refl}
 use mathlib.Core.Bool.{true, false}
 use mathlib.Core.List.{List, [], ◌∷◌, map}
 use Prim.Native.Nat.{ℕ}
-use Rattle.laws.specs.declared.Found.TheVariants.{At, Nothing}
+use Rattle.std.specs.Prelude.{Some, None}
 use Rattle.answers.specs.Verdict.{Verdict, given, refused, refusal_at, refusal, need, unless, fitting, answer_of, outcome_of, leaves, MeetsBy, Meets}
 use Rattle.answers.specs.declared.Answer.{Answer}
 
@@ -21,7 +21,7 @@ kept = (refl, refl)
 
 -- what stands further out is tested first; a search that found gives its place
 pub ordered : map (λ (v : Verdict ℕ). v)
-    (need false 20 0 (need false 21 1 (given [])) ∷ need true 20 0 (need false 21 1 (given [])) ∷ unless 11 (At 4) (need false 9 1 (given [])) ∷ unless 11 Nothing (given (5 ∷ [])) ∷ [])
+    (need false 20 0 (need false 21 1 (given [])) ∷ need true 20 0 (need false 21 1 (given [])) ∷ unless 11 (Some 4) (need false 9 1 (given [])) ∷ unless 11 None (given (5 ∷ [])) ∷ [])
     ≡ refused (refusal 20 0) ∷ refused (refusal 21 1) ∷ refused (refusal 11 4) ∷ given (5 ∷ []) ∷ []
 ordered = refl
 

@@ -1,7 +1,7 @@
 -- What words ask for, worked out by hand and computed: both sides of each edge.
 use mathlib.Core.Path.{◌≡◌, refl}
 use mathlib.Core.List.{[], ◌∷◌}
-use Rattle.laws.specs.declared.Found.TheVariants.{At, Nothing}
+use Rattle.std.specs.Prelude.{Some, None}
 use Rattle.asking.specs.Words.{digit, read_from, type_of, instance_of}
 
 -- the bytes in front of, in and behind 0 to 9, A to F and a to f
@@ -11,26 +11,26 @@ unfolding digit
 digits = refl
 
 -- LPTS; 4C505453, 4c505453, FFFFFFFF; three, five, seven and nine letters; a letter that is no digit
-pub types : (type_of (0x4C ∷ 0x50 ∷ 0x54 ∷ 0x53 ∷ []) ≡ At 0x4C505453)
-    × (type_of (52 ∷ 67 ∷ 53 ∷ 48 ∷ 53 ∷ 52 ∷ 53 ∷ 51 ∷ []) ≡ At 0x4C505453)
-    × (type_of (52 ∷ 99 ∷ 53 ∷ 48 ∷ 53 ∷ 52 ∷ 53 ∷ 51 ∷ []) ≡ At 0x4C505453)
-    × (type_of (70 ∷ 70 ∷ 70 ∷ 70 ∷ 70 ∷ 70 ∷ 70 ∷ 70 ∷ []) ≡ At 4294967295)
-    × (type_of [] ≡ Nothing)
-    × (type_of (70 ∷ 70 ∷ 70 ∷ []) ≡ Nothing)
-    × (type_of (70 ∷ 70 ∷ 70 ∷ 70 ∷ 70 ∷ []) ≡ Nothing)
-    × (type_of (70 ∷ 70 ∷ 70 ∷ 70 ∷ 70 ∷ 70 ∷ 70 ∷ []) ≡ Nothing)
-    × (type_of (48 ∷ 70 ∷ 70 ∷ 70 ∷ 70 ∷ 70 ∷ 70 ∷ 70 ∷ 70 ∷ []) ≡ Nothing)
-    × (type_of (52 ∷ 67 ∷ 53 ∷ 48 ∷ 53 ∷ 52 ∷ 53 ∷ 71 ∷ []) ≡ Nothing)
+pub types : (type_of (0x4C ∷ 0x50 ∷ 0x54 ∷ 0x53 ∷ []) ≡ Some 0x4C505453)
+    × (type_of (52 ∷ 67 ∷ 53 ∷ 48 ∷ 53 ∷ 52 ∷ 53 ∷ 51 ∷ []) ≡ Some 0x4C505453)
+    × (type_of (52 ∷ 99 ∷ 53 ∷ 48 ∷ 53 ∷ 52 ∷ 53 ∷ 51 ∷ []) ≡ Some 0x4C505453)
+    × (type_of (70 ∷ 70 ∷ 70 ∷ 70 ∷ 70 ∷ 70 ∷ 70 ∷ 70 ∷ []) ≡ Some 4294967295)
+    × (type_of [] ≡ None)
+    × (type_of (70 ∷ 70 ∷ 70 ∷ []) ≡ None)
+    × (type_of (70 ∷ 70 ∷ 70 ∷ 70 ∷ 70 ∷ []) ≡ None)
+    × (type_of (70 ∷ 70 ∷ 70 ∷ 70 ∷ 70 ∷ 70 ∷ 70 ∷ []) ≡ None)
+    × (type_of (48 ∷ 70 ∷ 70 ∷ 70 ∷ 70 ∷ 70 ∷ 70 ∷ 70 ∷ 70 ∷ []) ≡ None)
+    × (type_of (52 ∷ 67 ∷ 53 ∷ 48 ∷ 53 ∷ 52 ∷ 53 ∷ 71 ∷ []) ≡ None)
 unfolding digit read_from type_of
 types = (refl, refl, refl, refl, refl, refl, refl, refl, refl, refl)
 
 -- no digit; 0, 65535, 65536, 1A, 0000000012, 99999999999
-pub instances : (instance_of [] ≡ Nothing)
-    × (instance_of (48 ∷ []) ≡ At 0)
-    × (instance_of (54 ∷ 53 ∷ 53 ∷ 51 ∷ 53 ∷ []) ≡ At 65535)
-    × (instance_of (54 ∷ 53 ∷ 53 ∷ 51 ∷ 54 ∷ []) ≡ Nothing)
-    × (instance_of (49 ∷ 65 ∷ []) ≡ Nothing)
-    × (instance_of (48 ∷ 48 ∷ 48 ∷ 48 ∷ 48 ∷ 48 ∷ 48 ∷ 48 ∷ 49 ∷ 50 ∷ []) ≡ At 12)
-    × (instance_of (57 ∷ 57 ∷ 57 ∷ 57 ∷ 57 ∷ 57 ∷ 57 ∷ 57 ∷ 57 ∷ 57 ∷ 57 ∷ []) ≡ Nothing)
+pub instances : (instance_of [] ≡ None)
+    × (instance_of (48 ∷ []) ≡ Some 0)
+    × (instance_of (54 ∷ 53 ∷ 53 ∷ 51 ∷ 53 ∷ []) ≡ Some 65535)
+    × (instance_of (54 ∷ 53 ∷ 53 ∷ 51 ∷ 54 ∷ []) ≡ None)
+    × (instance_of (49 ∷ 65 ∷ []) ≡ None)
+    × (instance_of (48 ∷ 48 ∷ 48 ∷ 48 ∷ 48 ∷ 48 ∷ 48 ∷ 48 ∷ 49 ∷ 50 ∷ []) ≡ Some 12)
+    × (instance_of (57 ∷ 57 ∷ 57 ∷ 57 ∷ 57 ∷ 57 ∷ 57 ∷ 57 ∷ 57 ∷ 57 ∷ 57 ∷ []) ≡ None)
 unfolding digit read_from instance_of
 instances = (refl, refl, refl, refl, refl, refl, refl)

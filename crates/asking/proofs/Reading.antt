@@ -6,15 +6,15 @@ use native.Mathlib.Numerals.{add-one}
 use lib.ListN.{length, get_or, drop}
 use lib.Seq.{drop-cons}
 use borrow.Author.Tests.{lt-ltb, le-ltb}
-use Rattle.laws.specs.declared.Found.TheVariants.{At, Nothing}
+use Rattle.std.specs.Prelude.{Some, None}
 use Rattle.asking.specs.Words.{digit, read_from}
 
 module _ (base value : ℕ) (word : List ℕ) (i : ℕ) (l : i < length word) where
-  pub read_large : 268435455 < value → read_from base value (drop i word) ≡ Nothing
+  pub read_large : 268435455 < value → read_from base value (drop i word) ≡ None
   unfolding read_from
   read_large h = rw (drop-cons word i 0 l, lt-ltb 268435455 value h)
 
-  pub read_other : value ≤ 268435455 → base ≤ digit (get_or word i 0) → read_from base value (drop i word) ≡ Nothing
+  pub read_other : value ≤ 268435455 → base ≤ digit (get_or word i 0) → read_from base value (drop i word) ≡ None
   unfolding read_from
   read_other h g = rw (drop-cons word i 0 l, le-ltb 268435455 value h, le-ltb (digit (get_or word i 0)) base g)
 
@@ -22,6 +22,6 @@ module _ (base value : ℕ) (word : List ℕ) (i : ℕ) (l : i < length word) wh
   unfolding read_from
   read_more h g = rw (drop-cons word i 0 l, le-ltb 268435455 value h, lt-ltb (digit (get_or word i 0)) base g, add-one)
 
-pub read_end : (base value : ℕ) (rest : List ℕ) → rest ≡ [] → read_from base value rest ≡ At value
+pub read_end : (base value : ℕ) (rest : List ℕ) → rest ≡ [] → read_from base value rest ≡ Some value
 unfolding read_from
 read_end base value rest e = rw e

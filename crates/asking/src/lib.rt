@@ -5,8 +5,6 @@ ghost use Rattle.std.specs.Prelude.{◌≡◌, ◌≤◌, ◌<◌};
 ghost use Rattle.asking.specs.Words.{read_from, type_of, instance_of};
 ghost use Rattle.asking.specs.Words.{digit as Words·digit};
 
-use laws::Found;
-
 fn wide(x: u8) -> usize
     ensures { (result ≡ x) × (result < 256) }
 {
@@ -39,7 +37,7 @@ fn digit(b: usize) -> usize
 }
 
 // The number that a word of digits makes.
-fn read_number(word: &[u8], base: usize) -> Found
+fn read_number(word: &[u8], base: usize) -> Option<usize>
     requires { base ≤ 16 }
     ensures { result ≡ read_from base 0 word.now }
 {
@@ -47,48 +45,42 @@ fn read_number(word: &[u8], base: usize) -> Found
     let mut value: usize = 0;
     while i < word.len() {
         if 268435455 < value {
-            return Found::Nothing;
+            return None;
         }
         let d = digit(wide(word[i]));
         if base <= d {
-            return Found::Nothing;
+            return None;
         }
         value = value * base + d;
         i += 1;
     }
-    Found::At(value)
+    Some(value)
 }
 
 // The type that a word asks for.
-pub fn type_of(word: &[u8]) -> Found
+pub fn type_of(word: &[u8]) -> Option<usize>
     ensures { result ≡ type_of word.now }
 {
     if word.len() == 4 {
-        return Found::At(
+        return Some(
             ((wide(word[0]) * 256 + wide(word[1])) * 256 + wide(word[2])) * 256 + wide(word[3]),
         );
     }
     if word.len() == 8 {
         return read_number(word, 16);
     }
-    Found::Nothing
+    None
 }
 
 // The instance that a word asks for.
-pub fn instance_of(word: &[u8]) -> Found
+pub fn instance_of(word: &[u8]) -> Option<usize>
     ensures { result ≡ instance_of word.now }
 {
     if word.len() == 0 {
-        return Found::Nothing;
+        return None;
     }
     match read_number(word, 10) {
-        Found::Nothing => Found::Nothing,
-        Found::At(value) => {
-            if value <= 65535 {
-                Found::At(value)
-            } else {
-                Found::Nothing
-            }
-        }
+        None => None,
+        Some(value) => { if value <= 65535 { Some(value) } else { None } }
     }
 }

@@ -6,7 +6,7 @@ use Prim.Native.Nat.{ℕ}
 use lib.ListN.{replicate}
 use Rattle.laws.specs.Index.{every, tab}
 use Rattle.laws.specs.First.{first_fail, or_here}
-use Rattle.laws.specs.declared.Found.TheVariants.{At, Nothing}
+use Rattle.std.specs.Prelude.{Some, None}
 use Rattle.bit_rules.specs.Digits.{digits}
 use Rattle.bit_rules.specs.Source.{Source, Stop, source, start, Out, got, stopped, stop, opened, after_ff, next_byte, take_from, take_bit}
 use Rattle.bit_rules.specs.Table.{Table, table, code_count, kraft, holds, distinct, good_table}
@@ -140,6 +140,6 @@ unfolding tab first_fail or_here digits place_of code_at word
 words = refl
 
 -- where a value stands: first, last, nowhere
-pub places : map (λ (v : ℕ). place_of v T.values) (0x00 ∷ 0xf0 ∷ 0x02 ∷ []) ≡ (At 0 ∷ At 2 ∷ Nothing ∷ [])
+pub places : map (λ (v : ℕ). place_of v T.values) (0x00 ∷ 0xf0 ∷ 0x02 ∷ []) ≡ (Some 0 ∷ Some 2 ∷ None ∷ [])
 unfolding first_fail or_here place_of
 places = refl

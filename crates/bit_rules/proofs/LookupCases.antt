@@ -2,7 +2,7 @@
 use mathlib.Core.Path.{◌≡◌, refl}
 use mathlib.Core.List.{List, [], ◌∷◌, ◌++◌, map}
 use mathlib.Core.Bool.{Bool, true, false}
-use mathlib.Core.Option.{Option, none, some}
+use Rattle.std.specs.Prelude.{Option, Some, None}
 use Prim.Native.Nat.{ℕ, suc}
 use native.Mathlib.Omega.{arith}
 use lib.ListN.{replicate}
@@ -35,8 +35,8 @@ left_out = table (0 ∷ 1 ∷ 0 ∷ 0 ∷ 3 ∷ replicate 10 0 ++ (2 ∷ [])) (2
 -- ---- the numbers
 
 abbrev held_of : ℕ → Length → Option ℕ → List (ℕ × ℕ × ℕ × ℕ) → List (ℕ × ℕ × ℕ × ℕ)
-held_of l here none rest = rest
-held_of l here (some m) rest = (l, here.smallest, m, here.position) ∷ rest
+held_of l here None rest = rest
+held_of l here (Some m) rest = (l, here.smallest, m, here.position) ∷ rest
 
 -- length, smallest code, largest code and the first value's position, for the lengths that have codes
 abbrev held : ℕ → List Length → List (ℕ × ℕ × ℕ × ℕ)
@@ -78,7 +78,7 @@ unfolding tab largest_of lengths_from
 numbers_held = refl
 
 -- no code is no number, and the code 0 is 1
-pub limits : map limit_of (none ∷ some 0 ∷ some 65534 ∷ []) ≡ (0 ∷ 1 ∷ 65535 ∷ [])
+pub limits : map limit_of (None ∷ Some 0 ∷ Some 65534 ∷ []) ≡ (0 ∷ 1 ∷ 65535 ∷ [])
 unfolding limit_of
 limits = refl
 

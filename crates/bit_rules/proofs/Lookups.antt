@@ -3,7 +3,7 @@ use mathlib.Core.Path.{◌≡◌, refl, ap, subst}
 use mathlib.Core.Bool.{Bool, true, false, cond}
 use mathlib.Core.List.{List, [], ◌∷◌}
 use mathlib.Core.Logic.{◌⊎◌, inl, inr}
-use mathlib.Core.Option.{Option, none, some}
+use Rattle.std.specs.Prelude.{Option, Some, None}
 use Prim.Native.Nat.{ℕ, zero, suc, ◌+◌, ◌-◌, ◌*◌, ◌≤◌, ◌<◌}
 use native.Mathlib.Omega.{arith}
 use lib.Dec.{ltb}
@@ -24,13 +24,13 @@ use Rattle.bit_rules.specs.Lookup.{Length, largest_of, limit_of, lengths_from, a
 module _ (code : ℕ) where
   pub below_limit : (largest : Option ℕ) → code < limit_of largest → above code largest ≡ false
   unfolding limit_of above
-  below_limit none h = absurd (omega arith)
-  below_limit (some m) h = le-ltb m code (omega arith)
+  below_limit None h = absurd (omega arith)
+  below_limit (Some m) h = le-ltb m code (omega arith)
 
   pub from_limit : (largest : Option ℕ) → limit_of largest ≤ code → above code largest ≡ true
   unfolding limit_of above
-  from_limit none h = refl
-  from_limit (some m) h = lt-ltb m code (omega arith)
+  from_limit None h = refl
+  from_limit (Some m) h = lt-ltb m code (omega arith)
 
 -- n codes from `first` on have the limit first + n, and no codes have 0
 module _ (first : ℕ) where
@@ -93,12 +93,12 @@ answers_are_the_same = record { same = λ T s. same_from T.counts T.values 0 0 0
 
 -- ---- the numbers are those of Annex C's codes
 
-some_largest : (code n m : ℕ) → largest_of code n ≡ some m → suc m ≡ code + n
+some_largest : (code n m : ℕ) → largest_of code n ≡ Some m → suc m ≡ code + n
 unfolding limit_of largest_of
 some_largest code zero m e = absurd (omega (arith, ap limit_of e))
 some_largest code (suc n) m e = omega (arith, ap limit_of e)
 
-none_largest : (code n : ℕ) → largest_of code n ≡ none → n ≡ 0
+none_largest : (code n : ℕ) → largest_of code n ≡ None → n ≡ 0
 unfolding limit_of largest_of
 none_largest code zero e = refl
 none_largest code (suc n) e = absurd (omega (arith, ap limit_of e))
@@ -107,8 +107,8 @@ none_largest code (suc n) e = absurd (omega (arith, ap limit_of e))
 record Figured (counts : List ℕ) (code position size l : ℕ) (here : Length) : Type 0 where
   behind : here.position ≡ position + code_count (take l counts)
   codes : (k : ℕ) → k < get_or counts l 0 → code_at counts code size (code_count (take l counts) + k) ≡ digits (size + l) (here.smallest + k)
-  largest : (m : ℕ) → here.largest ≡ some m → suc m ≡ here.smallest + get_or counts l 0
-  none : here.largest ≡ none → get_or counts l 0 ≡ 0
+  largest : (m : ℕ) → here.largest ≡ Some m → suc m ≡ here.smallest + get_or counts l 0
+  none : here.largest ≡ None → get_or counts l 0 ≡ 0
 
 module _ (n : ℕ) (counts : List ℕ) (code position size : ℕ) where
   abbrev first : Length

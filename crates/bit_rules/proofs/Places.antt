@@ -8,7 +8,7 @@ use lib.Dec.{eqb}
 use lib.ListN.{length, get_or}
 use borrow.Author.Tests.{eq-eqb, ne_eqb}
 use Rattle.laws.specs.First.{first_fail}
-use Rattle.laws.specs.declared.Found.TheVariants.{At, Nothing}
+use Rattle.std.specs.Prelude.{Some, None}
 use Rattle.laws.proofs.First.{first_found, all_pass}
 use Rattle.bit_rules.specs.Table.{holds, distinct}
 use Rattle.bit_rules.specs.Write.{place_of}
@@ -40,13 +40,13 @@ apart (v ∷ vs) (suc i) (suc j) d l h e = go (holds v vs) d (λ k. apart vs i j
 abbrev pub other : List ℕ → ℕ → ℕ → Bool
 other values v i = not (eqb (get_or values i 0) v)
 
-none_before : (vs : List ℕ) (k v : ℕ) → distinct vs ≡ true → k < length vs → v ≡ get_or vs k 0 → first_fail k (other vs v) ≡ Nothing
+none_before : (vs : List ℕ) (k v : ℕ) → distinct vs ≡ true → k < length vs → v ≡ get_or vs k 0 → first_fail k (other vs v) ≡ None
 none_before vs k v d h e = all_pass k (other vs v) (λ i l. ap not (ne_eqb (get_or vs i 0) v (λ q. apart vs i k d l h (q ∙ e))))
 
-pub first_there : (vs : List ℕ) (k v n : ℕ) → distinct vs ≡ true → k < length vs → v ≡ get_or vs k 0 → k < n → first_fail n (other vs v) ≡ At k
+pub first_there : (vs : List ℕ) (k v n : ℕ) → distinct vs ≡ true → k < length vs → v ≡ get_or vs k 0 → k < n → first_fail n (other vs v) ≡ Some k
 first_there vs k v n d h e l = first_found (other vs v) n k l (none_before vs k v d h e) (ap not (eq-eqb (get_or vs k 0) v (sym e)))
 
 -- the place of the value at a place
-pub place_at : (vs : List ℕ) (k v : ℕ) → distinct vs ≡ true → k < length vs → v ≡ get_or vs k 0 → place_of v vs ≡ At k
+pub place_at : (vs : List ℕ) (k v : ℕ) → distinct vs ≡ true → k < length vs → v ≡ get_or vs k 0 → place_of v vs ≡ Some k
 unfolding place_of
 place_at vs k v d h e = first_there vs k v (length vs) d h e h

@@ -1,6 +1,5 @@
 -- K7, K8: a code looked up by three numbers of each length (T.81, F.2.2.3: MINCODE, MAXCODE, VALPTR). What is read is what `take_code` reads.
-use Rattle.std.specs.Prelude.{◌≡◌, Bool, true, cond, List, [], ◌∷◌, ℕ, zero, suc, ◌+◌, ◌-◌, ◌*◌, ◌<◌, ltb, get_or, drop}
-use Rattle.std.proofs.Math.Option.{Option, none, some}
+use Rattle.std.specs.Prelude.{◌≡◌, Bool, true, cond, List, [], ◌∷◌, ℕ, zero, suc, ◌+◌, ◌-◌, ◌*◌, ◌<◌, ltb, get_or, drop, Option, Some, None}
 use Rattle.bit_rules.specs.Digits.{bin, digits}
 use Rattle.bit_rules.specs.Source.{Source, take_bit}
 use Rattle.bit_rules.specs.Reader.{Reader, ◌>>=◌, done, fail}
@@ -16,13 +15,13 @@ pub record Length : Type 0 where
 
 -- K7: the largest of n codes, which begin at `smallest`
 unfoldable pub largest_of : ℕ → ℕ → Option ℕ
-largest_of smallest zero = none
-largest_of smallest (suc n) = some (smallest + n)
+largest_of smallest zero = None
+largest_of smallest (suc n) = Some (smallest + n)
 
 -- K7: a largest code plus one, and 0 where there is none: one number for either
 unfoldable pub limit_of : Option ℕ → ℕ
-limit_of none = 0
-limit_of (some largest) = suc largest
+limit_of None = 0
+limit_of (Some largest) = suc largest
 
 -- K7: "codes assigned by T.81 Annex C": the next code is `code`, the next value stands at `position`, and these are the counts of the lengths to come (T.81, Figure F.15)
 unfoldable pub lengths_from : ℕ → ℕ → List ℕ → List Length
@@ -36,16 +35,16 @@ lengths_of T = lengths_from 0 0 T.counts
 -- K7: what the numbers of length l + 1 say of the codes that Annex C assigns: value k of this length has the code k above the smallest, up to the largest; where there is none, there is no such value
 pub record NumbersOf (counts : List ℕ) (l : ℕ) (here : Length) : Type 0 where
   pub codes : (k : ℕ) → k < get_or counts l 0 → code_at counts 0 1 (here.position + k) ≡ digits (suc l) (here.smallest + k)
-  pub largest : (m : ℕ) → here.largest ≡ some m → suc m ≡ here.smallest + get_or counts l 0
-  pub none : here.largest ≡ none → get_or counts l 0 ≡ 0
+  pub largest : (m : ℕ) → here.largest ≡ Some m → suc m ≡ here.smallest + get_or counts l 0
+  pub none : here.largest ≡ None → get_or counts l 0 ≡ 0
 
 pub record NumbersAreOfCodes : Type 0 where
   pub each : (T : Table) (l : ℕ) (here : Length) (longer : List Length) → drop l (lengths_of T) ≡ here ∷ longer → NumbersOf T.counts l here
 
 -- K8: CODE > MAXCODE
 unfoldable pub above : ℕ → Option ℕ → Bool
-above code none = true
-above code (some largest) = ltb largest code
+above code None = true
+above code (Some largest) = ltb largest code
 
 -- K8: the bits so far make `code`. One more bit, until they are no longer above the largest code of their length; the value then stands as far behind the first of its length
 -- as the code is above the smallest (T.81, Figure F.16). 14 behind the last length.

@@ -1,6 +1,5 @@
 -- Reading a code, said by the words of the table alone: what comes next is the word of the value that is read, or 16 bits that no word begins.
-use Rattle.std.specs.Prelude.{◌≡◌, Bool, List, ◌++◌, ℕ, length}
-use Rattle.laws.specs.declared.Found.TheVariants.{At}
+use Rattle.std.specs.Prelude.{◌≡◌, Bool, List, ◌++◌, ℕ, length, Some}
 use Rattle.bit_rules.specs.Source.{Source, Stop, got, stopped, stop}
 use Rattle.bit_rules.specs.Gives.{Gives}
 use Rattle.bit_rules.specs.Table.{Table}
@@ -9,7 +8,7 @@ use Rattle.bit_rules.specs.Write.{place_of, word}
 
 -- K4: the value stands in the table
 abbrev pub Has : Table → ℕ → Type 0
-Has T v = (k : ℕ) × (place_of v T.values ≡ At k)
+Has T v = (k : ℕ) × (place_of v T.values ≡ Some k)
 
 -- K5: no value's word begins these bits
 abbrev pub NoWord : Table → List Bool → Type 0

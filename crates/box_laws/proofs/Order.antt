@@ -1,4 +1,5 @@
 -- The law of P11: bytes are handed out exactly if an ordering exists, then these are the bytes, and two orderings give the same. Assumes nothing.
+use Rattle.answers.specs.declared.Refusal.{Refusal}
 use Prim.Native.Nat.{ℕ, zero, suc, ◌+◌, ◌≤◌, ◌<◌}
 use mathlib.Core.Path.{◌≡◌, refl, ap, ap₂, sym, subst, ◌∙◌}
 use mathlib.Core.Logic.{⊎_elim}
@@ -8,12 +9,10 @@ use native.Mathlib.Omega.{arith}
 use lib.ListN.{length, length-append}
 use lib.Dec.{eqb, leb}
 use borrow.Author.Tests.{eq-eqb, ne_eqb, eqb-true, eqb-false, leb-true}
-use Rattle.laws.specs.declared.Found.TheVariants.{Nothing}
+use Rattle.std.specs.Prelude.{None, Result, Ok, Err}
 use Rattle.laws.proofs.Choices.{either}
 use Rattle.answers.specs.Verdict.{given}
 use Rattle.answers.proofs.Given.{refused_given, need_given, unless_given, fits}
-use Rattle.answers.specs.declared.Outcome.{Outcome}
-use Rattle.answers.specs.declared.Outcome.TheVariants.{Given, Refused}
 use Rattle.box_rules.specs.declared.Head.{Head}
 use Rattle.box_rules.specs.Walk.{walk, ending}
 use Rattle.box_rules.specs.Packets.{Packet, packets, mine}
@@ -95,10 +94,10 @@ payloads_total (p ∷ r) = length-append p.payload (payloads r) ∙ rw (payloads
 -- ---- packets in order
 
 module _ (l : List Packet) (e : numbers l ≡ counting 1 (length l)) where
-  pub reads_twice : first_twice (numbers l) ≡ Nothing
+  pub reads_twice : first_twice (numbers l) ≡ None
   reads_twice = twice_none (numbers l) (λ q. rw (ap (count q) e) (once 1 (length l) q))
 
-  pub reads_missing : first_missing (numbers l) ≡ Nothing
+  pub reads_missing : first_missing (numbers l) ≡ None
   unfolding first_missing
   reads_missing = rw (numbers_length l) (missing_none (numbers l) (length l) 1 (λ j u v. rw (ap (count j) e) (there 1 (length l) j u v)))
 
@@ -205,16 +204,16 @@ sorts_all ps h =
     let y : left n 1 ps ≡ [] = empty (left n 1 ps) (omega (arith, same_length s, length-append (sorted n 1 ps) (left n 1 ps))) in
     (rw append-nil at (rw y at s), r)
 
-pub each_once : (ps : List Packet) → first_twice (numbers ps) ≡ Nothing → first_missing (numbers ps) ≡ Nothing → (j : ℕ) → 1 ≤ j → j < 1 + length ps → count j (numbers ps) ≡ 1
+pub each_once : (ps : List Packet) → first_twice (numbers ps) ≡ None → first_missing (numbers ps) ≡ None → (j : ℕ) → 1 ≤ j → j < 1 + length ps → count j (numbers ps) ≡ 1
 unfolding first_missing
 each_once ps t m j u v =
     omega (arith, never_twice (numbers ps) t j, never_missing (numbers ps) (length (numbers ps)) 1 m j u (omega (arith, numbers_length ps)))
 
-pub sorted_makes : (ps : List Packet) → first_twice (numbers ps) ≡ Nothing → first_missing (numbers ps) ≡ Nothing
+pub sorted_makes : (ps : List Packet) → first_twice (numbers ps) ≡ None → first_missing (numbers ps) ≡ None
     → Reordered ps (sorted (length ps) 1 ps) × (numbers (sorted (length ps) 1 ps) ≡ counting 1 (length ps))
 sorted_makes ps t m = sorts_all ps (each_once ps t m)
 
-pub fine_total : (ps : List Packet) → first_twice (numbers ps) ≡ Nothing → first_missing (numbers ps) ≡ Nothing → length (joined ps) ≡ total ps
+pub fine_total : (ps : List Packet) → first_twice (numbers ps) ≡ None → first_missing (numbers ps) ≡ None → length (joined ps) ≡ total ps
 fine_total ps t m =
     let l : List Packet = sorted (length ps) 1 ps in
     let s = sorted_makes ps t m in
@@ -247,8 +246,8 @@ makes_given ps (p ∷ r) h room s f k =
 -- the tests that were passed, from the bytes
 record Passed (room : ℕ) (h : Head) (ps : List Packet) (b : List ℕ) : Type 0 where
   same : agree h ps ≡ true
-  single : first_twice (numbers ps) ≡ Nothing
-  whole : first_missing (numbers ps) ≡ Nothing
+  single : first_twice (numbers ps) ≡ None
+  whole : first_missing (numbers ps) ≡ None
   sum : total ps ≡ contents h
   out : b ≡ joined ps
   within : length b ≤ room
@@ -299,7 +298,7 @@ pub given_handed : (file : List ℕ) (kind instance room : ℕ) (b : List ℕ) �
 unfolding box_bytes assemble
 given_handed file kind instance room b e = go (ending (walk file)) refl e (mine kind instance (packets file)) refl
   where
-    make : ending (walk file) ≡ Given 0 → (ps : List Packet) → mine kind instance (packets file) ≡ ps → assemble room ps ≡ given b → HandedOut file kind instance room b
+    make : ending (walk file) ≡ Ok 0 → (ps : List Packet) → mine kind instance (packets file) ≡ ps → assemble room ps ≡ given b → HandedOut file kind instance room b
     make w [] f a = absurd (refused_given a)
     make w (p ∷ r) f a =
         let g = given_makes p r room b a in
@@ -313,10 +312,10 @@ given_handed file kind instance room b e = go (ending (walk file)) refl e (mine 
           fits = g.3;
         }
 
-    go : (o : Outcome) → ending (walk file) ≡ o → after_walk o (assemble room (mine kind instance (packets file))) ≡ given b
+    go : (o : Result ℕ Refusal) → ending (walk file) ≡ o → after_walk o (assemble room (mine kind instance (packets file))) ≡ given b
         → (ps : List Packet) → mine kind instance (packets file) ≡ ps → HandedOut file kind instance room b
-    go (Refused r) w a ps f = absurd (refused_given a)
-    go (Given n) w a ps f = make (w ∙ ap Given (ended (walk file) n w)) ps f (sym (ap (assemble room) f) ∙ a)
+    go (Err r) w a ps f = absurd (refused_given a)
+    go (Ok n) w a ps f = make (w ∙ ap Ok (ended (walk file) n w)) ps f (sym (ap (assemble room) f) ∙ a)
 
 -- two orderings give the same bytes
 pub one_answer : (file : List ℕ) (kind instance room : ℕ) (b c : List ℕ) → HandedOut file kind instance room b → HandedOut file kind instance room c → b ≡ c

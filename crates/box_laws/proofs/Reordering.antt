@@ -1,4 +1,5 @@
 -- The answer for packets does not move with their order: its number, its place and its bytes. Assumes nothing.
+use Rattle.answers.specs.declared.Refusal.{Refusal}
 use Prim.Native.Nat.{ℕ, zero, suc, ◌-◌, ◌≤◌}
 use mathlib.Core.Path.{◌≡◌, refl, ap, ap₂, sym, ◌∙◌}
 use mathlib.Core.Logic.{⊎_elim}
@@ -8,11 +9,9 @@ use native.Mathlib.Omega.{arith}
 use lib.ListN.{length}
 use lib.Dec.{eqb}
 use borrow.Author.Tests.{eqb-true}
-use Rattle.laws.specs.declared.Found.{Found}
-use Rattle.laws.specs.declared.Found.TheVariants.{At, Nothing}
+use Rattle.std.specs.Prelude.{Option, Some, None, Result}
 use Rattle.laws.proofs.Choices.{either, cond_left, cond_right, cond_swap, true_false}
 use Rattle.answers.specs.Verdict.{Verdict, refused, refusal, need, unless, fitting}
-use Rattle.answers.specs.declared.Outcome.{Outcome}
 use Rattle.box_rules.specs.declared.Head.{Head}
 use Rattle.box_rules.specs.Walk.{walk, ending}
 use Rattle.box_rules.specs.Packets.{Packet, packets, mine}
@@ -115,9 +114,9 @@ module _ (ns ms : List ℕ) (h : (q : ℕ) → count q ns ≡ count q ms) where
   twice_by_count : first_twice ns ≡ first_twice ms
   twice_by_count = go (first_twice ns) refl
     where
-      go : (f : Found) → first_twice ns ≡ f → first_twice ns ≡ first_twice ms
-      go Nothing e = e ∙ sym (twice_none ms (λ q. rw (← h q) (never_twice ns e q)))
-      go (At q) e = let s = smallest_twice ns q e in e ∙ sym (twice_is ms q (rw (← h q) s.0) (λ j l. rw (← h j) (s.1 j l)))
+      go : (f : Option ℕ) → first_twice ns ≡ f → first_twice ns ≡ first_twice ms
+      go None e = e ∙ sym (twice_none ms (λ q. rw (← h q) (never_twice ns e q)))
+      go (Some q) e = let s = smallest_twice ns q e in e ∙ sym (twice_is ms q (rw (← h q) s.0) (λ j l. rw (← h j) (s.1 j l)))
 
   missing_by_count : (k a : ℕ) → missing_from k a ns ≡ missing_from k a ms
   unfolding missing_from
@@ -140,7 +139,7 @@ module _ {a b : List Packet} (h : Reordered a b) where
       let n : length (numbers a) ≡ length (numbers b) = numbers_length a ∙ same_length h ∙ sym (numbers_length b) in
       rw n (missing_by_count (numbers a) (numbers b) (same_count h) (length (numbers b)) 1)
 
-  pub joined_kept : first_twice (numbers a) ≡ Nothing → joined a ≡ joined b
+  pub joined_kept : first_twice (numbers a) ≡ None → joined a ≡ joined b
   unfolding joined
   joined_kept t =
       same_joined a b (length a) 1 (λ j g. same_numbered h j (never_twice (numbers a) t j)) ∙ ap (λ (n : ℕ). joined_from n 1 b) (same_length h)
@@ -150,11 +149,11 @@ module _ {a b : List Packet} (h : Reordered a b) where
   unfolding assembled
   assembled_kept f g room e =
       rw (same_agree h f ∙ alike_agree f g b e)
-      (ap (λ (v : Verdict ℕ). need (agree g b) 5 0 v) (go (first_twice (numbers a)) refl ∙ ap (λ (t : Found). unless 6 t (rest room g b)) twice_kept))
+      (ap (λ (v : Verdict ℕ). need (agree g b) 5 0 v) (go (first_twice (numbers a)) refl ∙ ap (λ (t : Option ℕ). unless 6 t (rest room g b)) twice_kept))
     where
-      go : (t : Found) → first_twice (numbers a) ≡ t → unless 6 t (rest room f a) ≡ unless 6 t (rest room g b)
-      go (At q) t = refl
-      go Nothing t = rw (missing_kept, same_total h, joined_kept t, ← alike_contents f g e)
+      go : (t : Option ℕ) → first_twice (numbers a) ≡ t → unless 6 t (rest room f a) ≡ unless 6 t (rest room g b)
+      go (Some q) t = refl
+      go None t = rw (missing_kept, same_total h, joined_kept t, ← alike_contents f g e)
 
 -- 5, said of either first head
 disagreed : (room : ℕ) (k : Head) (ps : List Packet) → agree k ps ≡ false → assembled room k ps ≡ refused (refusal 5 0)
@@ -189,7 +188,7 @@ same_assemble room (p ∷ r) (q ∷ s) h = firsts_kept room p q r s h
 pub same_verdict : (file file' : List ℕ) (kind instance room : ℕ) → ending (walk file) ≡ ending (walk file')
     → assemble room (mine kind instance (packets file)) ≡ assemble room (mine kind instance (packets file')) → box_bytes file kind instance room ≡ box_bytes file' kind instance room
 unfolding box_bytes
-same_verdict file file' kind instance room = ap₂ (λ (o : Outcome) (v : Verdict ℕ). after_walk o v)
+same_verdict file file' kind instance room = ap₂ (λ (o : Result ℕ Refusal) (v : Verdict ℕ). after_walk o v)
 
 -- "File order doesn't matter": these packets may stand in any order
 pub same_answer : (file file' : List ℕ) (kind instance room : ℕ) → ending (walk file) ≡ ending (walk file')

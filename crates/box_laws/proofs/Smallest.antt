@@ -8,8 +8,7 @@ use native.Mathlib.Omega.{arith}
 use lib.ListN.{length}
 use lib.Dec.{eqb, ltb}
 use borrow.Author.Tests.{ne_eqb, eqb-true, eqb-false, lt-ltb, le-ltb, ltb-true, ltb-false}
-use Rattle.laws.specs.declared.Found.{Found}
-use Rattle.laws.specs.declared.Found.TheVariants.{At, Nothing}
+use Rattle.std.specs.Prelude.{Option, Some, None}
 use Rattle.laws.proofs.Choices.{either, at_one, at_nothing}
 use Rattle.box_rules.specs.Numbers.{count, least, first_twice, missing_from, first_missing, within, between}
 use Rattle.box_rules.proofs.Counts.{count_none, count_here, count_other, count_grows}
@@ -17,33 +16,33 @@ use Rattle.box_rules.proofs.Counts.{count_none, count_here, count_other, count_g
 -- ---- a number that stands twice
 
 -- at or above a number; none is above each
-abbrev Above : ℕ → Found → Type 0
-Above q Nothing = Unit
-Above q (At a) = q ≤ a
+abbrev Above : ℕ → Option ℕ → Type 0
+Above q None = Unit
+Above q (Some a) = q ≤ a
 
-least_above : (q : ℕ) (x y : Found) → Above q (least x y) → Above q x × Above q y
+least_above : (q : ℕ) (x y : Option ℕ) → Above q (least x y) → Above q x × Above q y
 unfolding least
-least_above q Nothing y b = (tt, b)
-least_above q (At c) Nothing b = (b, tt)
-least_above q (At c) (At d) b = (omega arith, omega arith)
+least_above q None y b = (tt, b)
+least_above q (Some c) None b = (b, tt)
+least_above q (Some c) (Some d) b = (omega arith, omega arith)
 
 -- each number below what `twice` gives stands once at most
 twice_above : (ns : List ℕ) (q : ℕ) → Above q (first_twice ns) → (j : ℕ) → j < q → count j ns ≤ 1
 unfolding first_twice
 twice_above [] q a j l = omega (arith, count_none j)
 twice_above (x ∷ r) q a j l =
-    let s = least_above q (cond (eqb (count x r) 0) Nothing (At x)) (first_twice r) a in
+    let s = least_above q (cond (eqb (count x r) 0) None (Some x)) (first_twice r) a in
     ⊎_elim
     (λ t. let e : x ≡ j = eqb-true x j t in here e (eqb (count x r) 0) refl s.0)
     (λ t. rw (count_other x j r (eqb-false x j t)) (twice_above r q s.1 j l))
     (either (eqb x j))
   where
-    here : x ≡ j → (b : Bool) → eqb (count x r) 0 ≡ b → Above q (cond b Nothing (At x)) → count j (x ∷ r) ≤ 1
+    here : x ≡ j → (b : Bool) → eqb (count x r) 0 ≡ b → Above q (cond b None (Some x)) → count j (x ∷ r) ≤ 1
     here e true t c = let z : count x r ≡ 0 = eqb-true (count x r) 0 t in rw (← e) (omega (arith, count_here x x r refl))
     here e false t c = absurd (omega arith)
 
 -- what `twice` gives does stand twice
-twice_stands : (ns : List ℕ) (q : ℕ) → first_twice ns ≡ At q → 1 < count q ns
+twice_stands : (ns : List ℕ) (q : ℕ) → first_twice ns ≡ Some q → 1 < count q ns
 unfolding first_twice least
 twice_stands [] q e = absurd (at_nothing (sym e))
 twice_stands (x ∷ r) q e = go (eqb (count x r) 0) refl (first_twice r) (λ k f. twice_stands r k f) refl e
@@ -51,48 +50,48 @@ twice_stands (x ∷ r) q e = go (eqb (count x r) 0) refl (first_twice r) (λ k f
     here : (count x r ≡ 0 → ⊥) → x ≡ q → 1 < count q (x ∷ r)
     here n u = rw (← u) (omega (arith, count_here x x r refl, n))
 
-    go : (b : Bool) → eqb (count x r) 0 ≡ b → (y : Found) → ((k : ℕ) → first_twice r ≡ At k → 1 < count k r) → first_twice r ≡ y
-        → least (cond b Nothing (At x)) y ≡ At q → 1 < count q (x ∷ r)
+    go : (b : Bool) → eqb (count x r) 0 ≡ b → (y : Option ℕ) → ((k : ℕ) → first_twice r ≡ Some k → 1 < count k r) → first_twice r ≡ y
+        → least (cond b None (Some x)) y ≡ Some q → 1 < count q (x ∷ r)
     go true t y ih g f = omega (arith, ih q (g ∙ f), count_grows x q r)
-    go false t Nothing ih g f = here (eqb-false (count x r) 0 t) (at_one f)
-    go false t (At d) ih g f = pick (ltb d x) refl
+    go false t None ih g f = here (eqb-false (count x r) 0 t) (at_one f)
+    go false t (Some d) ih g f = pick (ltb d x) refl
       where
         pick : (b : Bool) → ltb d x ≡ b → 1 < count q (x ∷ r)
-        pick true s = let z : d ≡ q = omega (arith, at_one f, ltb-true d x s) in omega (arith, ih q (g ∙ ap At z), count_grows x q r)
+        pick true s = let z : d ≡ q = omega (arith, at_one f, ltb-true d x s) in omega (arith, ih q (g ∙ ap Some z), count_grows x q r)
         pick false s = here (eqb-false (count x r) 0 t) (omega (arith, at_one f, ltb-false d x s))
 
-pub never_twice : (ns : List ℕ) → first_twice ns ≡ Nothing → (q : ℕ) → count q ns ≤ 1
+pub never_twice : (ns : List ℕ) → first_twice ns ≡ None → (q : ℕ) → count q ns ≤ 1
 never_twice ns e q = twice_above ns (suc q) (subst (Above (suc q)) (sym e) tt) q (omega arith)
 
 -- 6: the number stands twice, and it is the smallest such
-pub smallest_twice : (ns : List ℕ) (q : ℕ) → first_twice ns ≡ At q → (1 < count q ns) × ((j : ℕ) → j < q → count j ns ≤ 1)
+pub smallest_twice : (ns : List ℕ) (q : ℕ) → first_twice ns ≡ Some q → (1 < count q ns) × ((j : ℕ) → j < q → count j ns ≤ 1)
 smallest_twice ns q e = (twice_stands ns q e, twice_above ns q (subst (Above q) (sym e) (self q)))
   where
     self : (q : ℕ) → q ≤ q
     self q = omega arith
 
-pub twice_none : (ns : List ℕ) → ((q : ℕ) → count q ns ≤ 1) → first_twice ns ≡ Nothing
+pub twice_none : (ns : List ℕ) → ((q : ℕ) → count q ns ≤ 1) → first_twice ns ≡ None
 twice_none ns h = go (first_twice ns) refl
   where
-    go : (f : Found) → first_twice ns ≡ f → first_twice ns ≡ Nothing
-    go Nothing e = e
-    go (At q) e = absurd (omega (arith, twice_stands ns q e, h q))
+    go : (f : Option ℕ) → first_twice ns ≡ f → first_twice ns ≡ None
+    go None e = e
+    go (Some q) e = absurd (omega (arith, twice_stands ns q e, h q))
 
-pub twice_is : (ns : List ℕ) (q : ℕ) → 1 < count q ns → ((j : ℕ) → j < q → count j ns ≤ 1) → first_twice ns ≡ At q
+pub twice_is : (ns : List ℕ) (q : ℕ) → 1 < count q ns → ((j : ℕ) → j < q → count j ns ≤ 1) → first_twice ns ≡ Some q
 twice_is ns q l h = go (first_twice ns) refl
   where
-    go : (f : Found) → first_twice ns ≡ f → first_twice ns ≡ At q
-    go Nothing e = absurd (omega (arith, never_twice ns e q))
-    go (At a) e = pick (ltb a q) refl (ltb q a) refl
+    go : (f : Option ℕ) → first_twice ns ≡ f → first_twice ns ≡ Some q
+    go None e = absurd (omega (arith, never_twice ns e q))
+    go (Some a) e = pick (ltb a q) refl (ltb q a) refl
       where
-        pick : (b : Bool) → ltb a q ≡ b → (d : Bool) → ltb q a ≡ d → first_twice ns ≡ At q
+        pick : (b : Bool) → ltb a q ≡ b → (d : Bool) → ltb q a ≡ d → first_twice ns ≡ Some q
         pick true s d t = absurd (omega (arith, h a (ltb-true a q s), twice_stands ns a e))
         pick false s true t = absurd (omega (arith, (smallest_twice ns a e).1 q (ltb-true q a t)))
-        pick false s false t = e ∙ ap At (omega (arith, ltb-false a q s, ltb-false q a t))
+        pick false s false t = e ∙ ap Some (omega (arith, ltb-false a q s, ltb-false q a t))
 
 -- ---- a number that is missing
 
-pub never_missing : (ns : List ℕ) (k a : ℕ) → missing_from k a ns ≡ Nothing → (j : ℕ) → a ≤ j → j < a + k → 1 ≤ count j ns
+pub never_missing : (ns : List ℕ) (k a : ℕ) → missing_from k a ns ≡ None → (j : ℕ) → a ≤ j → j < a + k → 1 ≤ count j ns
 unfolding missing_from
 never_missing ns zero a e j g h = absurd (omega arith)
 never_missing ns (suc k) a e j g h =
@@ -106,7 +105,7 @@ never_missing ns (suc k) a e j g h =
     here true t u f = let n : a ≡ j = eqb-true a j t in rw (← n) (omega arith)
     here false t u f = f (eqb-false a j t)
 
-pub missing_none : (ns : List ℕ) (k a : ℕ) → ((j : ℕ) → a ≤ j → j < a + k → 1 ≤ count j ns) → missing_from k a ns ≡ Nothing
+pub missing_none : (ns : List ℕ) (k a : ℕ) → ((j : ℕ) → a ≤ j → j < a + k → 1 ≤ count j ns) → missing_from k a ns ≡ None
 unfolding missing_from
 missing_none ns zero a h = refl
 missing_none ns (suc k) a h =
@@ -114,7 +113,7 @@ missing_none ns (suc k) a h =
     rw (ne_eqb (count a ns) 0 (λ e. omega arith)) (missing_none ns k (suc a) (λ j u v. h j (omega arith) (omega arith)))
 
 -- 7: the number is one of those asked for and missing, and it is the smallest such
-pub smallest_missing : (ns : List ℕ) (k a q : ℕ) → missing_from k a ns ≡ At q → (a ≤ q) × (q < a + k) × (count q ns ≡ 0) × ((j : ℕ) → a ≤ j → j < q → 1 ≤ count j ns)
+pub smallest_missing : (ns : List ℕ) (k a q : ℕ) → missing_from k a ns ≡ Some q → (a ≤ q) × (q < a + k) × (count q ns ≡ 0) × ((j : ℕ) → a ≤ j → j < q → 1 ≤ count j ns)
 unfolding missing_from
 smallest_missing ns zero a q e = absurd (at_nothing (sym e))
 smallest_missing ns (suc k) a q e =
@@ -130,17 +129,17 @@ smallest_missing ns (suc k) a q e =
     here j u v n f true t = let z : a ≡ j = eqb-true a j t in rw (← z) (omega arith)
     here j u v n f false t = let z : (a ≡ j → ⊥) = eqb-false a j t in f j (omega arith) v
 
-pub missing_is : (ns : List ℕ) (k a q : ℕ) → a ≤ q → q < a + k → count q ns ≡ 0 → ((j : ℕ) → a ≤ j → j < q → 1 ≤ count j ns) → missing_from k a ns ≡ At q
+pub missing_is : (ns : List ℕ) (k a q : ℕ) → a ≤ q → q < a + k → count q ns ≡ 0 → ((j : ℕ) → a ≤ j → j < q → 1 ≤ count j ns) → missing_from k a ns ≡ Some q
 missing_is ns k a q g l z h = go (missing_from k a ns) refl
   where
-    go : (f : Found) → missing_from k a ns ≡ f → missing_from k a ns ≡ At q
-    go Nothing e = absurd (omega (arith, never_missing ns k a e q g l))
-    go (At p) e = pick (smallest_missing ns k a p e) (ltb p q) refl (ltb q p) refl
+    go : (f : Option ℕ) → missing_from k a ns ≡ f → missing_from k a ns ≡ Some q
+    go None e = absurd (omega (arith, never_missing ns k a e q g l))
+    go (Some p) e = pick (smallest_missing ns k a p e) (ltb p q) refl (ltb q p) refl
       where
-        pick : (a ≤ p) × (p < a + k) × (count p ns ≡ 0) × ((j : ℕ) → a ≤ j → j < p → 1 ≤ count j ns) → (b : Bool) → ltb p q ≡ b → (d : Bool) → ltb q p ≡ d → missing_from k a ns ≡ At q
+        pick : (a ≤ p) × (p < a + k) × (count p ns ≡ 0) × ((j : ℕ) → a ≤ j → j < p → 1 ≤ count j ns) → (b : Bool) → ltb p q ≡ b → (d : Bool) → ltb q p ≡ d → missing_from k a ns ≡ Some q
         pick m true s d t = absurd (omega (arith, h p m.0 (ltb-true p q s), m.2))
         pick m false s true t = absurd (omega (arith, m.3 q g (ltb-true q p t)))
-        pick m false s false t = e ∙ ap At (omega (arith, ltb-false p q s, ltb-false q p t))
+        pick m false s false t = e ∙ ap Some (omega (arith, ltb-false p q s, ltb-false q p t))
 
 -- numbers that stand can be passed
 pub missing_more_than : (ns : List ℕ) (k a l : ℕ) → ((j : ℕ) → a ≤ j → j < a + k → 1 ≤ count j ns) → missing_from (k + l) a ns ≡ missing_from l (a + k) ns
@@ -237,7 +236,7 @@ between_all (x ∷ r) lo hi = go (within lo hi x) (between_all r lo hi)
     go false ih = omega arith
 
 -- n numbers of which none of 1..n is missing have none twice
-pub pigeonhole : (ns : List ℕ) → first_missing ns ≡ Nothing → first_twice ns ≡ Nothing
+pub pigeonhole : (ns : List ℕ) → first_missing ns ≡ None → first_twice ns ≡ None
 unfolding first_missing
 pigeonhole ns e = twice_none ns (λ q. go q (within 1 (1 + length ns) q) refl)
   where

@@ -11,7 +11,7 @@ use lib.Seq.{drop_at, take_at, drop-drop, drop-append-add, get_or-append-add}
 use lib.Dec.{eqb, ltb}
 use borrow.Author.Tests.{ne_eqb, lt-ltb, le-ltb, lt-leb, eqb-true}
 use Rattle.laws.proofs.Choices.{either, by_test}
-use Rattle.answers.specs.declared.Outcome.TheVariants.{Given}
+use Rattle.std.specs.Prelude.{Ok}
 use Rattle.box_rules.specs.declared.Head.{Head}
 use Rattle.box_rules.specs.declared.Step.{Step}
 use Rattle.box_rules.specs.declared.Step.TheVariants.{End, Skip, Meet}
@@ -284,7 +284,7 @@ module _ (fill : ℕ) (behind : List ℕ) where
 
   pub record Walked (file : List ℕ) (at : ℕ) (parts : List Part) : Type 0 where
     pub met : packets_in file (steps_from file at) ≡ packets_of parts
-    pub well : ending (steps_from file at) ≡ Given 0
+    pub well : ending (steps_from file at) ≡ Ok 0
 
   ends : (file front : List ℕ) (at : ℕ) → file ≡ front ++ last → length front ≡ at → step_at file at ≡ End
   unfolding last step_at marked_at
@@ -322,7 +322,7 @@ starts r = rw (le-ltb (length (0xFF ∷ 0xD8 ∷ r)) 2 (omega arith))
 
 -- "The walk starts after FF D8", and meets what was written
 pub laid_out_lem : (parts : List Part) (fill : ℕ) (behind : List ℕ) → AllSound parts
-    → (packets (laid_out parts fill behind) ≡ packets_of parts) × (ending (walk (laid_out parts fill behind)) ≡ Given 0)
+    → (packets (laid_out parts fill behind) ≡ packets_of parts) × (ending (walk (laid_out parts fill behind)) ≡ Ok 0)
 unfolding packets laid_out last
 laid_out_lem parts fill behind s =
     let file : List ℕ = laid_out parts fill behind in

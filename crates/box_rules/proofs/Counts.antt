@@ -7,8 +7,7 @@ use mathlib.Core.Logic.{⊎_elim}
 use native.Mathlib.Omega.{arith}
 use lib.Dec.{eqb}
 use borrow.Author.Tests.{eq-eqb, ne_eqb}
-use Rattle.laws.specs.declared.Found.{Found}
-use Rattle.laws.specs.declared.Found.TheVariants.{At, Nothing}
+use Rattle.std.specs.Prelude.{Option, Some, None}
 use Rattle.laws.proofs.Choices.{either}
 use Rattle.box_rules.specs.Packets.{Packet}
 use Rattle.box_rules.specs.Numbers.{numbers, count, least, first_twice, missing_from}
@@ -62,30 +61,30 @@ count_append q (x ∷ a) b = go (eqb x q) (count_append q a b)
 
 -- ---- the smallest number that stands twice
 
-least_assoc : (x y z : Found) → least (least x y) z ≡ least x (least y z)
+least_assoc : (x y z : Option ℕ) → least (least x y) z ≡ least x (least y z)
 unfolding least
-least_assoc Nothing y z = refl
-least_assoc (At a) Nothing z = refl
-least_assoc (At a) (At b) Nothing = refl
-least_assoc (At a) (At b) (At c) = ap At (omega arith)
+least_assoc None y z = refl
+least_assoc (Some a) None z = refl
+least_assoc (Some a) (Some b) None = refl
+least_assoc (Some a) (Some b) (Some c) = ap Some (omega arith)
 
-pub least_right : (x : Found) → x ≡ least x Nothing
+pub least_right : (x : Option ℕ) → x ≡ least x None
 unfolding least
-least_right Nothing = refl
-least_right (At a) = refl
+least_right None = refl
+least_right (Some a) = refl
 
-pub twice_turn : (ns : List ℕ) (w : Found) {v t : Found} {x : ℕ} {r : List ℕ} → least w (first_twice ns) ≡ t → ns ≡ x ∷ r
-    → v ≡ least w (cond (eqb (count x r) 0) Nothing (At x)) → least v (first_twice r) ≡ t
+pub twice_turn : (ns : List ℕ) (w : Option ℕ) {v t : (Option ℕ)} {x : ℕ} {r : List ℕ} → least w (first_twice ns) ≡ t → ns ≡ x ∷ r
+    → v ≡ least w (cond (eqb (count x r) 0) None (Some x)) → least v (first_twice r) ≡ t
 unfolding first_twice
-twice_turn ns w {v} {t} {x} {r} h e f = rw f (least_assoc w (cond (eqb (count x r) 0) Nothing (At x)) (first_twice r) ∙ (rw e at h))
+twice_turn ns w {v} {t} {x} {r} h e f = rw f (least_assoc w (cond (eqb (count x r) 0) None (Some x)) (first_twice r) ∙ (rw e at h))
 
-pub twice_end : (ns : List ℕ) (w : Found) {t : Found} → least w (first_twice ns) ≡ t → ns ≡ [] → w ≡ t
+pub twice_end : (ns : List ℕ) (w : Option ℕ) {t : (Option ℕ)} → least w (first_twice ns) ≡ t → ns ≡ [] → w ≡ t
 unfolding first_twice
 twice_end ns w h e = least_right w ∙ (rw e at h)
 
 -- ---- the smallest number that is missing
 
-pub missing_done : (ns : List ℕ) (k q : ℕ) → k ≡ 0 → missing_from k q ns ≡ Nothing
+pub missing_done : (ns : List ℕ) (k q : ℕ) → k ≡ 0 → missing_from k q ns ≡ None
 unfolding missing_from
 missing_done ns zero q h = refl
 missing_done ns (suc k) q h = absurd (omega arith)

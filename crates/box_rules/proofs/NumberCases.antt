@@ -3,7 +3,7 @@ use Prim.Native.Nat.{ℕ}
 use mathlib.Core.Path.{◌≡◌, refl}
 use mathlib.Core.List.{List, [], ◌∷◌}
 use mathlib.Core.Bool.{true, false}
-use Rattle.laws.specs.declared.Found.TheVariants.{At, Nothing}
+use Rattle.std.specs.Prelude.{Some, None}
 use Rattle.box_rules.specs.Packets.{Packet, packets_in, is_mine, mine, mine_from}
 use Rattle.box_rules.specs.Walk.{be16, be32, head_at, ones, barred, tagged, packet_at, whole_at, sized_at, marked_at, step_at, steps_in, steps_from}
 use Rattle.box_rules.specs.Numbers.{numbers, numbers_from, count, least, first_twice, missing_from, first_missing, within, between}
@@ -32,29 +32,29 @@ unfolding be16 be32 head_at ones barred tagged packet_at whole_at sized_at marke
 of_one_box = refl
 
 -- 6, "a sequence number stands twice": "the smallest such"
-pub twice : (first_twice [] ≡ Nothing)
-    × (first_twice (0 ∷ []) ≡ Nothing)
-    × (first_twice (0 ∷ 0 ∷ []) ≡ At 0)
-    × (first_twice (1 ∷ 2 ∷ 3 ∷ []) ≡ Nothing)
-    × (first_twice (2 ∷ 1 ∷ 2 ∷ []) ≡ At 2)
-    × (first_twice (5 ∷ 4 ∷ 5 ∷ 4 ∷ []) ≡ At 4)
-    × (first_twice (4 ∷ 5 ∷ 5 ∷ 4 ∷ []) ≡ At 4)
-    × (first_twice (7 ∷ 7 ∷ 7 ∷ []) ≡ At 7)
-    × (first_twice (4294967295 ∷ 1 ∷ 4294967295 ∷ []) ≡ At 4294967295)
+pub twice : (first_twice [] ≡ None)
+    × (first_twice (0 ∷ []) ≡ None)
+    × (first_twice (0 ∷ 0 ∷ []) ≡ Some 0)
+    × (first_twice (1 ∷ 2 ∷ 3 ∷ []) ≡ None)
+    × (first_twice (2 ∷ 1 ∷ 2 ∷ []) ≡ Some 2)
+    × (first_twice (5 ∷ 4 ∷ 5 ∷ 4 ∷ []) ≡ Some 4)
+    × (first_twice (4 ∷ 5 ∷ 5 ∷ 4 ∷ []) ≡ Some 4)
+    × (first_twice (7 ∷ 7 ∷ 7 ∷ []) ≡ Some 7)
+    × (first_twice (4294967295 ∷ 1 ∷ 4294967295 ∷ []) ≡ Some 4294967295)
 unfolding count least first_twice
 twice = (refl, refl, refl, refl, refl, refl, refl, refl, refl)
 
 -- 7, "a sequence number is missing": "smallest missing of 1..n"; 0 is a number, and none of 1..n
-pub missing : (first_missing [] ≡ Nothing)
-    × (first_missing (0 ∷ []) ≡ At 1)
-    × (first_missing (1 ∷ []) ≡ Nothing)
-    × (first_missing (2 ∷ []) ≡ At 1)
-    × (first_missing (2 ∷ 1 ∷ []) ≡ Nothing)
-    × (first_missing (1 ∷ 3 ∷ []) ≡ At 2)
-    × (first_missing (0 ∷ 1 ∷ []) ≡ At 2)
-    × (first_missing (5 ∷ 1 ∷ 4 ∷ 2 ∷ []) ≡ At 3)
-    × (first_missing (6 ∷ 1 ∷ 5 ∷ 7 ∷ []) ≡ At 2)
-    × (first_missing (4294967295 ∷ 1 ∷ []) ≡ At 2)
+pub missing : (first_missing [] ≡ None)
+    × (first_missing (0 ∷ []) ≡ Some 1)
+    × (first_missing (1 ∷ []) ≡ None)
+    × (first_missing (2 ∷ []) ≡ Some 1)
+    × (first_missing (2 ∷ 1 ∷ []) ≡ None)
+    × (first_missing (1 ∷ 3 ∷ []) ≡ Some 2)
+    × (first_missing (0 ∷ 1 ∷ []) ≡ Some 2)
+    × (first_missing (5 ∷ 1 ∷ 4 ∷ 2 ∷ []) ≡ Some 3)
+    × (first_missing (6 ∷ 1 ∷ 5 ∷ 7 ∷ []) ≡ Some 2)
+    × (first_missing (4294967295 ∷ 1 ∷ []) ≡ Some 2)
 unfolding count missing_from first_missing
 missing = (refl, refl, refl, refl, refl, refl, refl, refl, refl, refl)
 

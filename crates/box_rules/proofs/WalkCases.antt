@@ -4,7 +4,7 @@ use mathlib.Core.Path.{◌≡◌, refl}
 use mathlib.Core.List.{List, [], ◌∷◌}
 use mathlib.Core.Bool.{true, false}
 use Rattle.answers.specs.Verdict.{refusal}
-use Rattle.answers.specs.declared.Outcome.TheVariants.{Given, Refused}
+use Rattle.std.specs.Prelude.{Ok, Err}
 use Rattle.box_rules.specs.declared.Head.{Head}
 use Rattle.box_rules.specs.declared.Step.{Step}
 use Rattle.box_rules.specs.declared.Step.TheVariants.{End, Skip, Meet, Broken}
@@ -104,17 +104,17 @@ heads = refl
 
 -- "The walk starts after FF D8"; 1, "does not begin FF D8"; "needing nothing after it"; "no SOS": where the next segment was to begin.
 -- A broken head of any type and instance gives 3; what is met first is told.
-pub ended : (ending (walk []) ≡ Refused (refusal 1 0))
-    × (ending (walk (0xFF ∷ [])) ≡ Refused (refusal 1 0))
-    × (ending (walk (0xFF ∷ 0xD9 ∷ 0xFF ∷ 0xDA ∷ [])) ≡ Refused (refusal 1 0))
-    × (ending (walk (0xFE ∷ 0xD8 ∷ 0xFF ∷ 0xDA ∷ [])) ≡ Refused (refusal 1 0))
-    × (ending (walk (begun [])) ≡ Refused (refusal 2 2))
-    × (ending (walk (begun (0xFF ∷ 0xDA ∷ []))) ≡ Given 0)
-    × (ending (walk (begun (0xFF ∷ 0xDA ∷ 0x00 ∷ tagged_as 18 7 []))) ≡ Given 0)
-    × (ending (walk (begun (0xFF ∷ 0xE0 ∷ 0 ∷ 2 ∷ []))) ≡ Refused (refusal 2 6))
-    × (ending (walk (begun (0xFF ∷ 0xE0 ∷ 0 ∷ 2 ∷ tagged_as 18 7 (0xFF ∷ 0xDA ∷ [])))) ≡ Refused (refusal 3 6))
-    × (ending (walk (begun (tagged_as 18 7 (0xFF ∷ 0x00 ∷ [])))) ≡ Refused (refusal 3 2))
-    × (ending (walk (begun (tagged_as 18 8 (0xFF ∷ 0x00 ∷ tagged_as 18 7 [])))) ≡ Refused (refusal 2 22))
+pub ended : (ending (walk []) ≡ Err (refusal 1 0))
+    × (ending (walk (0xFF ∷ [])) ≡ Err (refusal 1 0))
+    × (ending (walk (0xFF ∷ 0xD9 ∷ 0xFF ∷ 0xDA ∷ [])) ≡ Err (refusal 1 0))
+    × (ending (walk (0xFE ∷ 0xD8 ∷ 0xFF ∷ 0xDA ∷ [])) ≡ Err (refusal 1 0))
+    × (ending (walk (begun [])) ≡ Err (refusal 2 2))
+    × (ending (walk (begun (0xFF ∷ 0xDA ∷ []))) ≡ Ok 0)
+    × (ending (walk (begun (0xFF ∷ 0xDA ∷ 0x00 ∷ tagged_as 18 7 []))) ≡ Ok 0)
+    × (ending (walk (begun (0xFF ∷ 0xE0 ∷ 0 ∷ 2 ∷ []))) ≡ Err (refusal 2 6))
+    × (ending (walk (begun (0xFF ∷ 0xE0 ∷ 0 ∷ 2 ∷ tagged_as 18 7 (0xFF ∷ 0xDA ∷ [])))) ≡ Err (refusal 3 6))
+    × (ending (walk (begun (tagged_as 18 7 (0xFF ∷ 0x00 ∷ [])))) ≡ Err (refusal 3 2))
+    × (ending (walk (begun (tagged_as 18 8 (0xFF ∷ 0x00 ∷ tagged_as 18 7 [])))) ≡ Err (refusal 2 22))
 unfolding be16 be32 head_at ones barred tagged packet_at whole_at sized_at marked_at step_at steps_in steps_from begins walk ending
 ended = (refl, refl, refl, refl, refl, refl, refl, refl, refl, refl, refl)
 

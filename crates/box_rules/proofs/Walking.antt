@@ -12,7 +12,7 @@ use borrow.Author.Tests.{ne_eqb, le-leb, lt-leb, le-ltb, ltb-false, leb-false}
 use Rattle.laws.proofs.Choices.{either, by_test}
 use Rattle.answers.specs.Verdict.{refusal}
 use Rattle.answers.specs.declared.Refusal.{Refusal}
-use Rattle.answers.specs.declared.Outcome.TheVariants.{Given, Refused}
+use Rattle.std.specs.Prelude.{Ok, Err}
 use Rattle.box_rules.specs.declared.Head.{Head}
 use Rattle.box_rules.specs.declared.Step.{Step}
 use Rattle.box_rules.specs.declared.Step.TheVariants.{End, Skip, Meet, Broken}
@@ -122,11 +122,11 @@ module _ (file : List ℕ) (at : ℕ) where
 
   -- ---- how the walk ends
 
-  pub ending_end : step_at file at ≡ End → ending (steps_from file at) ≡ Given 0
+  pub ending_end : step_at file at ≡ End → ending (steps_from file at) ≡ Ok 0
   unfolding ending
   ending_end e = ap ending (unroll file at) ∙ rw e
 
-  pub ending_broken : {r : Refusal} → step_at file at ≡ Broken r → ending (steps_from file at) ≡ Refused r
+  pub ending_broken : {r : Refusal} → step_at file at ≡ Broken r → ending (steps_from file at) ≡ Err r
   unfolding ending
   ending_broken e = ap ending (unroll file at) ∙ rw e
 
@@ -163,7 +163,7 @@ module _ (file : List ℕ) (from : ℕ) where
   pub on_begun : begins file ≡ true → walk_from file from ≡ steps_from file from
   on_begun h = rw h
 
-  pub on_not : begins file ≡ false → ending (walk_from file from) ≡ Refused (refusal 1 0)
+  pub on_not : begins file ≡ false → ending (walk_from file from) ≡ Err (refusal 1 0)
   unfolding ending
   on_not h = rw h
 
@@ -172,7 +172,7 @@ module _ (file : List ℕ) where
   unfolding walk
   walk_begun = on_begun file 2
 
-  pub walk_not : begins file ≡ false → ending (walk file) ≡ Refused (refusal 1 0)
+  pub walk_not : begins file ≡ false → ending (walk file) ≡ Err (refusal 1 0)
   unfolding walk
   walk_not = on_not file 2
 
@@ -182,7 +182,7 @@ module _ (file : List ℕ) where
       ⊎_elim (λ b. ap ending (on_begun file from b) ∙ sym e ∙ sym (ap ending (walk_begun b))) (λ b. on_not file from b ∙ sym (walk_not b)) (either (begins file))
 
 -- a walk that ends well gives the place 0
-pub ended : (steps : List Step) (n : ℕ) → ending steps ≡ Given n → n ≡ 0
+pub ended : (steps : List Step) (n : ℕ) → ending steps ≡ Ok n → n ≡ 0
 unfolding ending
 ended [] n e = cc
 ended (End ∷ r) n e = cc
@@ -191,7 +191,7 @@ ended (Skip next ∷ r) n e = ended r n e
 ended (Meet head start len next ∷ r) n e = ended r n e
 
 -- of a walk that ends well, the packets are those from position 2 on
-pub packets_all : (file : List ℕ) (count : ℕ) → ending (walk file) ≡ Given count → packets file ≡ packets_in file (steps_from file 2)
+pub packets_all : (file : List ℕ) (count : ℕ) → ending (walk file) ≡ Ok count → packets file ≡ packets_in file (steps_from file 2)
 unfolding packets
 packets_all file count h = go (begins file) refl
   where
@@ -199,7 +199,7 @@ packets_all file count h = go (begins file) refl
     go true e = ap (packets_in file) (walk_begun file e)
     go false e = let f = sym (walk_not file e) ∙ h in let z : ◌≡◌ {A = ℕ} 0 1 = cc in let y : ⊥ = omega arith in absurd y
 
-pub mine_all : (file : List ℕ) (kind instance count : ℕ) → ending (walk file) ≡ Given count → mine kind instance (packets file) ≡ mine_from file kind instance 2
+pub mine_all : (file : List ℕ) (kind instance count : ℕ) → ending (walk file) ≡ Ok count → mine kind instance (packets file) ≡ mine_from file kind instance 2
 unfolding mine_from
 mine_all file kind instance count h = ap (mine kind instance) (packets_all file count h)
 

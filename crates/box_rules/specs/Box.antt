@@ -1,8 +1,7 @@
 -- N5 and P5 to P12: the answer for one type and instance.
-use Rattle.std.specs.Prelude.{ℕ, zero, suc, ◌+◌, ◌-◌, List, [], ◌∷◌, ◌++◌, Bool, true, false, cond, length, eqb}
+use Rattle.answers.specs.declared.Refusal.{Refusal}
+use Rattle.std.specs.Prelude.{ℕ, zero, suc, ◌+◌, ◌-◌, List, [], ◌∷◌, ◌++◌, Bool, true, false, cond, length, eqb, Result, Ok, Err}
 use Rattle.answers.specs.Verdict.{Verdict, refused, refusal, need, unless, fitting}
-use Rattle.answers.specs.declared.Outcome.{Outcome}
-use Rattle.answers.specs.declared.Outcome.TheVariants.{Given, Refused}
 use Rattle.box_rules.specs.declared.Head.{Head}
 use Rattle.box_rules.specs.Walk.{walk, ending}
 use Rattle.box_rules.specs.Packets.{Packet, packets, mine}
@@ -56,9 +55,9 @@ assemble room [] = refused (refusal 4 0)
 assemble room (p ∷ r) = assembled room p.head (p ∷ r)
 
 -- N5: "1 to 3 over the whole walk"
-abbrev pub after_walk : Outcome → Verdict ℕ → Verdict ℕ
-after_walk (Given count) next = next
-after_walk (Refused r) next = refused r
+abbrev pub after_walk : Result ℕ Refusal → Verdict ℕ → Verdict ℕ
+after_walk (Ok count) next = next
+after_walk (Err r) next = refused r
 
 -- N5: the answer to a call, for every file, type, instance and length of the destination
 unfoldable pub box_bytes : List ℕ → ℕ → ℕ → ℕ → Verdict ℕ

@@ -1,7 +1,5 @@
 -- P7 and P8: the number that stands twice (6), and the one that is missing (7).
-use Rattle.std.specs.Prelude.{ℕ, zero, suc, min, List, [], ◌∷◌, Bool, false, cond, length, eqb, ltb}
-use Rattle.laws.specs.declared.Found.{Found}
-use Rattle.laws.specs.declared.Found.TheVariants.{At, Nothing}
+use Rattle.std.specs.Prelude.{ℕ, zero, suc, min, List, [], ◌∷◌, Bool, false, cond, length, eqb, ltb, Option, Some, None}
 use Rattle.box_rules.specs.Packets.{Packet, mine_from}
 
 -- P7: the sequence numbers of packets, in file order
@@ -19,23 +17,23 @@ count q [] = 0
 count q (x ∷ r) = cond (eqb x q) (suc (count q r)) (count q r)
 
 -- P7: the smaller of two numbers, where there is one
-unfoldable pub least : Found → Found → Found
-least Nothing b = b
-least (At a) Nothing = At a
-least (At a) (At b) = At (min a b)
+unfoldable pub least : Option ℕ → Option ℕ → Option ℕ
+least None b = b
+least (Some a) None = Some a
+least (Some a) (Some b) = Some (min a b)
 
 -- P7: 6, "a sequence number stands twice": "the smallest such"
-unfoldable pub first_twice : List ℕ → Found
-first_twice [] = Nothing
-first_twice (x ∷ r) = least (cond (eqb (count x r) 0) Nothing (At x)) (first_twice r)
+unfoldable pub first_twice : List ℕ → Option ℕ
+first_twice [] = None
+first_twice (x ∷ r) = least (cond (eqb (count x r) 0) None (Some x)) (first_twice r)
 
 -- P8: the smallest of the k numbers from q on that does not stand
-unfoldable pub missing_from : ℕ → ℕ → List ℕ → Found
-missing_from zero q ns = Nothing
-missing_from (suc k) q ns = cond (eqb (count q ns) 0) (At q) (missing_from k (suc q) ns)
+unfoldable pub missing_from : ℕ → ℕ → List ℕ → Option ℕ
+missing_from zero q ns = None
+missing_from (suc k) q ns = cond (eqb (count q ns) 0) (Some q) (missing_from k (suc q) ns)
 
 -- P8: 7, "a sequence number is missing": "smallest missing of 1..n"
-unfoldable pub first_missing : List ℕ → Found
+unfoldable pub first_missing : List ℕ → Option ℕ
 first_missing ns = missing_from (length ns) 1 ns
 
 -- ---- how many numbers lie from lo on and below hi

@@ -1,8 +1,7 @@
 -- P11: "Bytes are handed out exactly if an ordering of all of them exists whose sequence numbers read 1, 2, .. n,
 -- all with one LBox, and whose payloads joined have LBox-8 bytes; then these are the bytes (given room)."
 -- The rule "reads the stated length less the box head in place of LBox-8" (A5).
-use Rattle.std.specs.Prelude.{ℕ, zero, suc, ◌≤◌, ◌<◌, ◌≡◌, List, [], ◌∷◌, ◌++◌, true, length}
-use Rattle.answers.specs.declared.Outcome.TheVariants.{Given}
+use Rattle.std.specs.Prelude.{ℕ, zero, suc, ◌≤◌, ◌<◌, ◌≡◌, List, [], ◌∷◌, ◌++◌, true, length, Ok}
 use Rattle.box_rules.specs.declared.Head.{Head}
 use Rattle.box_rules.specs.Walk.{walk, ending}
 use Rattle.box_rules.specs.Packets.{Packet, packets, mine}
@@ -35,7 +34,7 @@ pub record Makes (ps order : List Packet) (h : Head) : Type 0 where
 
 -- P11: the bytes b are handed out, by this sentence: the walk ends well, the type and instance has packets, an ordering of them makes a box, and there is room
 pub record HandedOut (file : List ℕ) (kind instance room : ℕ) (b : List ℕ) : Type 0 where
-  pub well : ending (walk file) ≡ Given 0
+  pub well : ending (walk file) ≡ Ok 0
   pub some : 0 < length (mine kind instance (packets file))
   pub order : List Packet
   pub stated : Head

@@ -1,8 +1,7 @@
 -- P13 to P19: the text of the listing.
-use Rattle.std.specs.Prelude.{ℕ, zero, suc, ◌+◌, ◌/◌, ◌%◌, List, [], ◌∷◌, ◌++◌, cond, length, ltb}
+use Rattle.answers.specs.declared.Refusal.{Refusal}
+use Rattle.std.specs.Prelude.{ℕ, zero, suc, ◌+◌, ◌/◌, ◌%◌, List, [], ◌∷◌, ◌++◌, cond, length, ltb, Result, Ok, Err}
 use Rattle.answers.specs.Verdict.{Verdict, fitting}
-use Rattle.answers.specs.declared.Outcome.{Outcome}
-use Rattle.answers.specs.declared.Outcome.TheVariants.{Given, Refused}
 use Rattle.box_rules.specs.Walk.{walk, ending}
 use Rattle.box_rules.specs.Packets.{Packet, packets}
 
@@ -43,9 +42,9 @@ unfoldable pub answer : ℕ → ℕ → List ℕ
 answer n p = 97 ∷ 110 ∷ 115 ∷ 119 ∷ 101 ∷ 114 ∷ 32 ∷ (dec n ++ (32 ∷ (dec p ++ (10 ∷ []))))
 
 -- P16, P17: "a refused walk gives the header and `answer` with number and place only"
-abbrev pub text_after : Outcome → List ℕ → List ℕ
-text_after (Given count) ls = ls ++ answer 0 0
-text_after (Refused r) ls = answer r.number r.place
+abbrev pub text_after : Result ℕ Refusal → List ℕ → List ℕ
+text_after (Ok count) ls = ls ++ answer 0 0
+text_after (Err r) ls = answer r.number r.place
 
 -- P13, P18: "a file of at most 64 KiB"; "A longer input gives the header and `answer 20 0`"
 unfoldable pub listing : List ℕ → List ℕ

@@ -1,8 +1,7 @@
 -- W1 to W9, P1 to P3, P25: what stands at a position of a file, and the walk as the list of its steps.
-use Rattle.std.specs.Prelude.{ℕ, zero, suc, ◌+◌, ◌*◌, ◌-◌, List, [], ◌∷◌, Bool, true, false, cond, length, get_or, drop, ltb, leb, eqb}
+use Rattle.answers.specs.declared.Refusal.{Refusal}
+use Rattle.std.specs.Prelude.{ℕ, zero, suc, ◌+◌, ◌*◌, ◌-◌, List, [], ◌∷◌, Bool, true, false, cond, length, get_or, drop, ltb, leb, eqb, Result, Ok, Err}
 use Rattle.answers.specs.Verdict.{refusal}
-use Rattle.answers.specs.declared.Outcome.{Outcome}
-use Rattle.answers.specs.declared.Outcome.TheVariants.{Given, Refused}
 use Rattle.box_rules.specs.declared.Head.{Head}
 use Rattle.box_rules.specs.declared.Step.{Step}
 use Rattle.box_rules.specs.declared.Step.TheVariants.{End, Skip, Meet, Broken}
@@ -111,9 +110,9 @@ unfoldable pub walk : List ℕ → List Step
 walk file = walk_from file 2
 
 -- N15, W3: how a walk ended: well, or with the refusal of its last step (a walk has a last step, so the first line is never met)
-unfoldable pub ending : List Step → Outcome
-ending [] = Given 0
-ending (End ∷ r) = Given 0
-ending (Broken f ∷ r) = Refused f
+unfoldable pub ending : List Step → Result ℕ Refusal
+ending [] = Ok 0
+ending (End ∷ r) = Ok 0
+ending (Broken f ∷ r) = Err f
 ending (Skip next ∷ r) = ending r
 ending (Meet head start len next ∷ r) = ending r

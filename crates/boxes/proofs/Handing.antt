@@ -8,14 +8,13 @@ use lib.ListN.{length}
 use Rattle.answers.specs.Verdict.{Verdict, refused, Tried}
 use Rattle.answers.proofs.Laws.{tried_given}
 use Rattle.answers.specs.declared.Refusal.{Refusal}
-use Rattle.answers.specs.declared.Outcome.TheVariants.{Given}
+use Rattle.std.specs.Prelude.{Result, Ok, Err}
 use Rattle.box_rules.specs.Packets.{Packet}
 use Rattle.box_rules.specs.Box.{joined}
 use Rattle.box_rules.specs.Order.{payloads}
 use Rattle.copies.specs.Code.{Numbered, put_at}
 use Rattle.judging.specs.Code.{Whole, ReadyIs}
 use Rattle.judging.specs.declared.Ready.{Ready}
-use Rattle.judging.specs.declared.Ready.TheVariants.{Not, Yes}
 use Rattle.scans.proofs.InOrder.{order_joined}
 use Rattle.copies.proofs.Puts.{put_front}
 
@@ -26,8 +25,8 @@ module _ {ps : List Packet} {room : ℕ} {v : Verdict ℕ} {n sum : ℕ} {ordere
   pub number_room : Numbered ps n room
   number_room = record { many = w.many; once = w.once; fits = bytes_room }
 
-  pub put_tried : (d after : List ℕ) → after ≡ put_at d 0 (joined ps) → Tried 0 v d after (Given sum)
-  put_tried d after e = tried_given (ap Given (sym w.size)) w.says (e ∙ put_front d (joined ps))
+  pub put_tried : (d after : List ℕ) → after ≡ put_at d 0 (joined ps) → Tried 0 v d after (Ok sum)
+  put_tried d after e = tried_given (ap Ok (sym w.size)) w.says (e ∙ put_front d (joined ps))
 
   ordered_bytes : ordered ≡ true → joined ps ≡ payloads ps
   ordered_bytes e = order_joined ps (sym w.order ∙ e)
@@ -35,12 +34,11 @@ module _ {ps : List Packet} {room : ℕ} {v : Verdict ℕ} {n sum : ℕ} {ordere
   pub order_room : ordered ≡ true → length (payloads ps) ≤ room
   order_room e = omega (arith, ap length (ordered_bytes e), bytes_room)
 
-  pub order_tried : ordered ≡ true → (d after : List ℕ) → after ≡ put_at d 0 (payloads ps) → Tried 0 v d after (Given sum)
+  pub order_tried : ordered ≡ true → (d after : List ℕ) → after ≡ put_at d 0 (payloads ps) → Tried 0 v d after (Ok sum)
   order_tried o d after e = put_tried d after (e ∙ ap (put_at d 0) (sym (ordered_bytes o)))
 
-pub ready_yes : (ps : List Packet) (room : ℕ) (v : Verdict ℕ) {r : Ready} {n sum : ℕ} {ordered : Bool} → ReadyIs ps room v r → r ≡ Yes n sum ordered
-    → Whole ps room v n sum ordered
+pub ready_yes : (ps : List Packet) (room : ℕ) (v : Verdict ℕ) {r : Result Ready Refusal} {b : Ready} → ReadyIs ps room v r → r ≡ Ok b → Whole ps room v b.n b.total b.ordered
 ready_yes ps room v h e = subst (ReadyIs ps room v) e h
 
-pub ready_not : (ps : List Packet) (room : ℕ) (v : Verdict ℕ) {r : Ready} {f : Refusal} → ReadyIs ps room v r → r ≡ Not f → v ≡ refused f
+pub ready_not : (ps : List Packet) (room : ℕ) (v : Verdict ℕ) {r : Result Ready Refusal} {f : Refusal} → ReadyIs ps room v r → r ≡ Err f → v ≡ refused f
 ready_not ps room v h e = subst (ReadyIs ps room v) e h

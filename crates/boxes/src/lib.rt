@@ -5,22 +5,22 @@ ghost use Rattle.std.specs.Prelude.{length};
 ghost use Rattle.answers.specs.Verdict.{Meets, Tried};
 ghost use Rattle.box_rules.specs.Box.{box_bytes};
 
-use answers::{Answer, Outcome};
+use answers::{Answer, Refusal};
 use judging::Ready;
 
-fn try_box(file: &[u8], kind: u32, instance: u16, destination: &mut [u8]) -> Outcome
+fn try_box(file: &[u8], kind: u32, instance: u16, destination: &mut [u8]) -> Result<usize, Refusal>
     ensures { Tried 0 (box_bytes file.now kind instance (length destination.old))
         destination.old destination.new result }
 {
     match judging::judged(file, kind, instance, destination.len()) {
-        Ready::Not(r) => Outcome::Refused(r),
-        Ready::Yes { n, total, ordered } => {
+        Err(r) => Err(r),
+        Ok(Ready { n, total, ordered }) => {
             if ordered {
                 copies::put_in_order(file, kind, instance, destination);
-                return Outcome::Given(total);
+                return Ok(total);
             }
             copies::put_by_number(file, kind, instance, n, destination);
-            Outcome::Given(total)
+            Ok(total)
         }
     }
 }
@@ -32,9 +32,9 @@ pub fn box_bytes(file: &[u8], kind: u32, instance: u16, destination: &mut [u8]) 
 {
     let o = try_box(file, kind, instance, destination);
     match o {
-        Outcome::Given(_) => answers::answer_of(o),
-        Outcome::Refused(_) => {
-            answers::clear_u8(destination);
+        Ok(_) => answers::answer_of(o),
+        Err(_) => {
+            answers::clear(destination, 0);
             answers::answer_of(o)
         }
     }

@@ -128,7 +128,7 @@ pub fn merge_or_not(
 {
     let number = setting_number(named, s, pixels, matrix);
     if number != 0 {
-        answers::clear_u16(destination);
+        answers::clear(destination, 0);
         return answers::Answer {
             number,
             place: 0,

@@ -10,8 +10,7 @@ use lib.ListN.{length, get_or, set, length-set, replicate, get_or-replicate}
 use lib.Seq.{get_or-set_same, get_or-set_other}
 use borrow.Author.Tests.{ne_eqb, eqb-true, eqb-false}
 use Rattle.laws.specs.First.{first_fail, or_here}
-use Rattle.laws.specs.declared.Found.{Found}
-use Rattle.laws.specs.declared.Found.TheVariants.{At, Nothing}
+use Rattle.std.specs.Prelude.{Option, Some, None}
 use Rattle.bit_rules.specs.Digits.{digits}
 use Rattle.bit_rules.specs.Table.{Table, good_table}
 use Rattle.bit_rules.specs.Write.{place_of}
@@ -26,9 +25,9 @@ first_same : (test : ℕ → Bool) (i : ℕ) → test i ≡ true → first_fail 
 unfolding first_fail or_here
 first_same test i t = rw (add-one, t) (go (first_fail i test))
   where
-    go : (f : Found) → or_here f true i ≡ f
-    go (At k) = refl
-    go Nothing = refl
+    go : (f : Option ℕ) → or_here f true i ≡ f
+    go (Some k) = refl
+    go None = refl
 
 pub record Entering (T : Table) (entries : List ℕ) (place : ℕ) : Type 0 where
   pub within : place ≤ length T.values
@@ -46,7 +45,7 @@ parts w n s e h =
     let d : (w * n + s) / w ≡ n = grind arith in
     rw (m, d) e
 
-pub entered : {counts : List ℕ} {place : ℕ} {code : Code} → Assigned counts place code → Entered counts (At place) (entry_of code)
+pub entered : {counts : List ℕ} {place : ℕ} {code : Code} → Assigned counts place code → Entered counts (Some place) (entry_of code)
 entered {counts} {place} {code} a = record {
   same = parts _ code.number code.size a.same (omega (arith, a.short));
   short = omega (arith, a.short);

@@ -1,7 +1,5 @@
 -- What the code's struct for a code stands for, and the writer's table of codes.
-use Rattle.std.specs.Prelude.{◌≡◌, Bool, true, false, List, ℕ, ◌+◌, ◌*◌, ◌/◌, ◌%◌, ◌^◌, ◌≤◌, ◌<◌, eqb, get_or}
-use Rattle.laws.specs.declared.Found.{Found}
-use Rattle.laws.specs.declared.Found.TheVariants.{At, Nothing}
+use Rattle.std.specs.Prelude.{◌≡◌, Bool, true, false, List, ℕ, ◌+◌, ◌*◌, ◌/◌, ◌%◌, ◌^◌, ◌≤◌, ◌<◌, eqb, get_or, Option, Some, None}
 use Rattle.bit_rules.specs.Digits.{digits}
 use Rattle.bit_rules.specs.Table.{Table}
 use Rattle.bit_rules.specs.Write.{place_of, code_at, code_of}
@@ -14,16 +12,16 @@ pub record Assigned (counts : List ℕ) (place : ℕ) (code : Code) : Type 0 whe
   pub short : code.size ≤ 16
   pub small : code.number < 2 ^ 25
 
-abbrev pub absent : Found → Bool
-absent (At k) = false
-absent Nothing = true
+abbrev pub absent : Option ℕ → Bool
+absent (Some k) = false
+absent None = true
 
 -- a code in one number: 32 times the number that its bits make, and how many they are
 abbrev pub entry_of : Code → ℕ
 entry_of code = 32 * code.number + code.size
 
 -- an entry tells the bits of a code; it is 0 where no place was found
-pub record Entered (counts : List ℕ) (found : Found) (entry : ℕ) : Type 0 where
+pub record Entered (counts : List ℕ) (found : Option ℕ) (entry : ℕ) : Type 0 where
   pub same : digits (entry % 32) (entry / 32) ≡ code_of counts found
   pub short : entry % 32 ≤ 16
   pub none : eqb entry 0 ≡ absent found

@@ -7,7 +7,7 @@ ghost use Rattle.box_rules.specs.Order.{payloads};
 ghost use Rattle.scans.specs.Code.{mine_of};
 ghost use Rattle.copies.specs.Code.{put_at, Numbered, Windowed};
 
-use packets::Next;
+use packets::Mine;
 
 // Copies len bytes of the file from start on to the destination at position to.
 fn copy_part(file: &[u8], start: usize, len: usize, destination: &mut [u8], to: usize)
@@ -29,22 +29,23 @@ pub fn put_in_order(file: &[u8], kind: u32, instance: u16, destination: &mut [u8
     let mut at: usize = 2;
     let mut to: usize = 0;
     loop {
-        let here = packets::mine_here(file, kind, instance, at);
-        if 0 < here {
+        if let Some(here) = packets::mine_here(file, kind, instance, at) {
             copy_part(file, at + 20, here - 18, destination, to);
             to += here - 18;
             at = at + 2 + here;
         } else {
             match packets::next_mine(file, kind, instance, at) {
-                Next::Gone => {
+                None => {
                     return;
                 }
-                Next::Mine {
-                    head: _,
-                    start,
-                    len,
-                    next,
-                } => {
+                Some(
+                    Mine {
+                        head: _,
+                        start,
+                        len,
+                        next,
+                    },
+                ) => {
                     copy_part(file, start, len, destination, to);
                     to += len;
                     at = next;
@@ -75,15 +76,17 @@ fn put_window(
     let mut end = to;
     while i < k {
         match packets::next_mine(file, kind, instance, places[i]) {
-            Next::Gone => {
+            None => {
                 return end;
             }
-            Next::Mine {
-                head: _,
-                start,
-                len,
-                next: _,
-            } => {
+            Some(
+                Mine {
+                    head: _,
+                    start,
+                    len,
+                    next: _,
+                },
+            ) => {
                 copy_part(file, start, len, destination, end);
                 end += len;
                 i += 1;

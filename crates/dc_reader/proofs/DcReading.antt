@@ -17,7 +17,7 @@ use Rattle.bits.specs.declared.Cursor.{Cursor}
 use Rattle.plane_rules.specs.Plane.{read, onto}
 use Rattle.plane_rules.specs.Dc.{new_dc, dc_blocks}
 use Rattle.planes.specs.Code.{plane_of, Ran}
-use Rattle.planes.specs.declared.Blocks.TheVariants.{Read, Refused}
+use Rattle.std.specs.Prelude.{Ok, Err}
 use Rattle.planes.proofs.Onto.{onto_none, onto_onto}
 
 -- behind i blocks
@@ -31,7 +31,7 @@ pub now_first : {bytes : List ℕ} {values before : List ℤ} → Now bytes valu
 now_first {bytes} = record { within = omega arith; long = refl; rest = refl; same = rw (start_source bytes) (onto_none _) }
 
 module _ {bytes : List ℕ} {values before now : List ℤ} {c : Cursor} {i : ℕ} (a : Now bytes values before now c i) where
-  pub now_end : length values ≤ i → Ran bytes (length values) (dc_blocks 0 values (start bytes)) before now (Read c)
+  pub now_end : length values ≤ i → Ran bytes (length values) (dc_blocks 0 values (start bytes)) before now (Ok c)
   unfolding plane_of dc_blocks onto
   now_end h =
       let e : i ≡ length values = omega (arith, a.within) in
@@ -45,7 +45,7 @@ module _ {bytes : List ℕ} {values before now : List ℤ} {c : Cursor} {i : ℕ
     next : drop i values ≡ get_or values i (pos 0) ∷ drop (suc i) values
     next = drop-cons values i (pos 0) h
 
-    pub now_stopped : {x : Stop} → take_bit (source_of bytes c) ≡ stopped x → Ran bytes (length values) (dc_blocks 0 values (start bytes)) before now (Refused (refusal_at x.number i x.offset))
+    pub now_stopped : {x : Stop} → take_bit (source_of bytes c) ≡ stopped x → Ran bytes (length values) (dc_blocks 0 values (start bytes)) before now (Err (refusal_at x.number i x.offset))
     unfolding plane_of dc_blocks onto
     now_stopped e = record {
       same = rw (next, e) at a.same;

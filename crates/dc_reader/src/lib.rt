@@ -7,11 +7,9 @@ ghost use Rattle.bit_rules.specs.Source.{start};
 ghost use Rattle.plane_rules.specs.Dc.{new_dc, dc_blocks, read_dc};
 ghost use Rattle.planes.specs.Code.{Small, Ran};
 
-use answers::{Answer, Outcome, Refusal};
+use answers::{Answer, Refusal};
 use bits::{Cursor, Taken};
-use laws::Found;
 use levels::Part;
-use planes::Blocks;
 
 // "new DC = 2c + bit"
 fn new_dc(value: i32, bit: bool) -> i32
@@ -22,7 +20,7 @@ fn new_dc(value: i32, bit: bool) -> i32
 }
 
 // The blocks, one bit each.
-fn read_dc_blocks(data: &[u8], values: &[i32], destination: &mut [i32]) -> Blocks
+fn read_dc_blocks(data: &[u8], values: &[i32], destination: &mut [i32]) -> Result<Cursor, Refusal>
     requires small { Small values.now }
     requires values_in_bounds { length values.now ≤ length destination.old }
     ensures { Ran «data».now (length values.now) (dc_blocks 0 values.now (start «data».now))
@@ -42,7 +40,7 @@ fn read_dc_blocks(data: &[u8], values: &[i32], destination: &mut [i32]) -> Block
                 destination[i] = new_dc(values[i], b);
                 c = next;
             }
-            Taken::Stopped(number, stop) => return Blocks::Refused(Refusal {
+            Taken::Stopped(number, stop) => return Err(Refusal {
                 number,
                 place: i,
                 second: stop.last,
@@ -50,7 +48,7 @@ fn read_dc_blocks(data: &[u8], values: &[i32], destination: &mut [i32]) -> Block
         }
         i += 1;
     }
-    Blocks::Read(c)
+    Ok(c)
 }
 
 // The plane, or the first refusal.
@@ -60,7 +58,7 @@ fn try_read_dc(
     data: &[u8],
     values: &[i32],
     destination: &mut [i32],
-) -> Outcome
+) -> Result<usize, Refusal>
     ensures { Tried (pos 0) (read_dc plane blocks values.now «data».now (length destination.old))
         destination.old destination.new result }
 {
@@ -71,7 +69,7 @@ fn try_read_dc(
         return answers::refuse(21, 0);
     }
     let level = (plane - 1) as usize;
-    if let Found::At(i) = levels::first_outside(Part::Dc, level, values) {
+    if let Some(i) = levels::first_outside(Part::Dc, level, values) {
         return answers::refuse(11, i);
     }
     if destination.len() < blocks {
@@ -93,8 +91,8 @@ pub fn read_dc(
         destination.old destination.new result }
 {
     let o = try_read_dc(plane, blocks, data, values, destination);
-    if let Outcome::Refused(_) = o {
-        answers::clear_i32(destination);
+    if let Err(_) = o {
+        answers::clear(destination, 0);
         return answers::answer_of(o);
     }
     answers::answer_of(o)

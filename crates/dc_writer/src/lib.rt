@@ -6,9 +6,8 @@ ghost use Rattle.answers.specs.Verdict.{Meets, Tried};
 ghost use Rattle.bit_putter.specs.Code.{new_putter, Puts};
 ghost use Rattle.plane_rules.specs.Dc.{dc_bit, write_dc};
 
-use answers::{Answer, Outcome};
+use answers::{Answer, Refusal};
 use bit_putter::Putter;
-use laws::Found;
 use levels::Part;
 
 // What a value is more than twice its half.
@@ -38,7 +37,12 @@ fn put_dc_bits(values: &[i32], destination: &mut [u8]) -> Putter
 }
 
 // The bytes, or the first refusal.
-fn try_write_dc(plane: u32, blocks: usize, values: &[i32], destination: &mut [u8]) -> Outcome
+fn try_write_dc(
+    plane: u32,
+    blocks: usize,
+    values: &[i32],
+    destination: &mut [u8],
+) -> Result<usize, Refusal>
     ensures { Tried 0 (write_dc plane blocks values.now (length destination.old))
         destination.old destination.new result }
 {
@@ -51,7 +55,7 @@ fn try_write_dc(plane: u32, blocks: usize, values: &[i32], destination: &mut [u8
     if values.len() != blocks {
         return answers::refuse(21, 0);
     }
-    if let Found::At(i) = levels::first_outside(Part::Dc, plane as usize, values) {
+    if let Some(i) = levels::first_outside(Part::Dc, plane as usize, values) {
         return answers::refuse(11, i);
     }
     let p = put_dc_bits(values, destination);
@@ -59,7 +63,7 @@ fn try_write_dc(plane: u32, blocks: usize, values: &[i32], destination: &mut [u8
     if destination.len() < count {
         return answers::refuse(9, count);
     }
-    Outcome::Given(count)
+    Ok(count)
 }
 
 // Plane j of DC values of level j, coded against their halves.
@@ -68,8 +72,8 @@ pub fn write_dc(plane: u32, blocks: usize, values: &[i32], destination: &mut [u8
         destination.old destination.new result }
 {
     let o = try_write_dc(plane, blocks, values, destination);
-    if let Outcome::Refused(_) = o {
-        answers::clear_u8(destination);
+    if let Err(_) = o {
+        answers::clear(destination, 0);
         return answers::answer_of(o);
     }
     answers::answer_of(o)

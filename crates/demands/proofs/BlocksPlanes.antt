@@ -2,7 +2,7 @@
 use mathlib.Core.Path.{◌≡◌, refl, ap, ◌∙◌}
 use mathlib.Core.Bool.{Bool, false}
 use mathlib.Core.List.{List, [], ◌∷◌}
-use mathlib.Core.Option.{Option, none}
+use Rattle.std.specs.Prelude.{Option, None}
 use Prim.Native.Nat.{ℕ, suc}
 use lib.IntN.{ℤ}
 use lib.ListN.{length}
@@ -69,14 +69,14 @@ module _ (codes : Table) (bs : List (List ℤ)) (s₀ : Source) where
   abbrev ac_end : ℕ → Option Task → List (List ℤ) → Source → End
   ac_end k o later s = end_of (ac_blocks codes k o later s)
 
-  pub ac_stops_lem : (r : Refusal) → end_of (ac_blocks codes 0 none bs s₀) ≡ halted r → StopsAt (one_ac codes) none bs s₀ r.number r.place r.second
-  ac_stops_lem = stops_at (one_ac codes) ac_end (ac_nil codes) (ac_cons codes) none bs s₀
+  pub ac_stops_lem : (r : Refusal) → end_of (ac_blocks codes 0 None bs s₀) ≡ halted r → StopsAt (one_ac codes) None bs s₀ r.number r.place r.second
+  ac_stops_lem = stops_at (one_ac codes) ac_end (ac_nil codes) (ac_cons codes) None bs s₀
 
-  pub stops_ac : (n p q : ℕ) → StopsAt (one_ac codes) none bs s₀ n p q → end_of (ac_blocks codes 0 none bs s₀) ≡ halted (refusal_at n p q)
-  stops_ac = at_stops (one_ac codes) ac_end (ac_nil codes) (ac_cons codes) none bs s₀
+  pub stops_ac : (n p q : ℕ) → StopsAt (one_ac codes) None bs s₀ n p q → end_of (ac_blocks codes 0 None bs s₀) ≡ halted (refusal_at n p q)
+  stops_ac = at_stops (one_ac codes) ac_end (ac_nil codes) (ac_cons codes) None bs s₀
 
-  pub ac_left : (s : Source) → end_of (ac_blocks codes 0 none bs s₀) ≡ over s → only_padding s ≡ false → LeftOver (one_ac codes) none bs s₀ s.seen
-  ac_left = left_over (one_ac codes) ac_end (ac_nil codes) (ac_cons codes) none bs s₀
+  pub ac_left : (s : Source) → end_of (ac_blocks codes 0 None bs s₀) ≡ over s → only_padding s ≡ false → LeftOver (one_ac codes) None bs s₀ s.seen
+  ac_left = left_over (one_ac codes) ac_end (ac_nil codes) (ac_cons codes) None bs s₀
 
-  pub left_ac : (p : ℕ) (h : LeftOver (one_ac codes) none bs s₀ p) → end_of (ac_blocks codes 0 none bs s₀) ≡ over h.source
-  left_ac = over_left (one_ac codes) ac_end (ac_nil codes) (ac_cons codes) none bs s₀
+  pub left_ac : (p : ℕ) (h : LeftOver (one_ac codes) None bs s₀ p) → end_of (ac_blocks codes 0 None bs s₀) ≡ over h.source
+  left_ac = over_left (one_ac codes) ac_end (ac_nil codes) (ac_cons codes) None bs s₀

@@ -3,7 +3,7 @@ use mathlib.Core.Path.{◌≡◌, refl, sym, ap, subst, ◌∙◌}
 use mathlib.Core.Logic.{◌⊎◌, inl, inr}
 use mathlib.Core.Bool.{Bool, true, false, cond}
 use mathlib.Core.List.{List, [], ◌∷◌, ◌++◌, append-nil, append_assoc}
-use mathlib.Core.Option.{none}
+use Rattle.std.specs.Prelude.{Option, Some, None}
 use Prim.Native.Nat.{ℕ, zero, suc, ◌+◌, ◌-◌, ◌*◌, ◌≤◌, ◌<◌}
 use native.Mathlib.Omega.{arith}
 use borrow.Author.Tests.{eqb-true, eqb-false, eq-eqb, ne_eqb}
@@ -12,8 +12,6 @@ use lib.IntN.{ℤ}
 use lib.ListN.{length, get_or, take, drop, take-append-drop}
 use lib.Seq.{length-take-le, take-length, take-suc, drop-cons}
 use Rattle.laws.specs.Index.{every}
-use Rattle.laws.specs.declared.Found.{Found}
-use Rattle.laws.specs.declared.Found.TheVariants.{At, Nothing}
 use Rattle.laws.proofs.Choices.{either}
 use Rattle.answers.specs.Verdict.{Verdict, given, refused, refusal_at, refusal, need, unless}
 use Rattle.answers.specs.declared.Refusal.{Refusal}
@@ -68,17 +66,17 @@ dc_twice (v ∷ values) = record {
 }
 
 module _ (T : Table) (counted : 0 < length T.counts) where
-  block_of : (bytes : List ℕ) (k : ℕ) (C E : Type 0) (left : ℕ) (b : List ℤ) → 0 < length b → First bytes k C E (ac_block T left none b)
+  block_of : (bytes : List ℕ) (k : ℕ) (C E : Type 0) (left : ℕ) (b : List ℤ) → 0 < length b → First bytes k C E (ac_block T left None b)
   block_of bytes k C E left [] h = absurd (omega arith)
   block_of bytes k C E left (v ∷ values) h = block_first bytes k C E T left counted v values
 
-  ac_twice : (blocks : ℕ) (values : List ℤ) → length values ≡ 63 * blocks → Twice (λ bytes. ac_blocks T 0 none (cut blocks values) (start bytes))
+  ac_twice : (blocks : ℕ) (values : List ℤ) → length values ≡ 63 * blocks → Twice (λ bytes. ac_blocks T 0 None (cut blocks values) (start bytes))
   unfolding ac_blocks cut
   ac_twice zero values n = record { both = λ bytes k C E rest' h c e. inl tt }
   ac_twice (suc blocks) values n = record {
     both = λ bytes k C E rest' h c e.
         let long : length (take 63 values) ≡ 63 = length-take-le 63 values (omega arith) in
-        first_blocks bytes k C E (λ p b later. ac_block T (suc (length later)) p b) (λ p b later. block_law bytes k C E T (suc (length later)) counted p b) 0 none (take 63 values) (cut blocks (drop 63 values)) _ _
+        first_blocks bytes k C E (λ p b later. ac_block T (suc (length later)) p b) (λ p b later. block_law bytes k C E T (suc (length later)) counted p b) 0 None (take 63 values) (cut blocks (drop 63 values)) _ _
         (block_of bytes k C E _ (take 63 values) (omega arith)) (both_start bytes k C E rest' h c e);
   }
 
@@ -93,9 +91,9 @@ module _ {next : Verdict ℤ → Verdict ℤ} (f : Front next) (n : ℕ) (out : 
   front_need true p = f
   front_need false p = barred (refusal n p) out (λ v. refl)
 
-  front_unless : (found : Found) → Front (λ v. unless n found (next v))
-  front_unless Nothing = f
-  front_unless (At p) = barred (refusal n p) out (λ v. refl)
+  front_unless : (found : Option ℕ) → Front (λ v. unless n found (next v))
+  front_unless None = f
+  front_unless (Some p) = barred (refusal n p) out (λ v. refl)
 
 -- ---- from planes to the law
 
@@ -221,8 +219,8 @@ module _ (plane : List ℕ → Plane) (tests : Verdict ℤ → Verdict ℤ) (fro
         go true e =
             let d = w.pair (omega arith) (eqb-true (get_or bytes q 0) 255 e) in
             let two : q + 2 ≡ suc (q + 1) = omega arith in
-            let none : get_or bytes (q + 1) 0 ≡ 255 → ⊥ = λ f. let g = d.1 in omega arith in
-            goes_on (q + 2) more (omega arith) (let b = d.0 in omega arith) (even (ap (λ (j : ℕ). tidy (take j bytes)) two ∙ tidy_take (q + 1) bytes d.0 none))
+            let None : get_or bytes (q + 1) 0 ≡ 255 → ⊥ = λ f. let g = d.1 in omega arith in
+            goes_on (q + 2) more (omega arith) (let b = d.0 in omega arith) (even (ap (λ (j : ℕ). tidy (take j bytes)) two ∙ tidy_take (q + 1) bytes d.0 None))
         go false e =
             let one : q + 1 ≡ suc q = omega arith in
             goes_on (q + 1) more (omega arith) (let b = w.below in omega arith) (even (ap (λ (j : ℕ). tidy (take j bytes)) one ∙ tidy_take q bytes w.below (eqb-false (get_or bytes q 0) 255 e)))
@@ -289,7 +287,7 @@ module _ (plane blocks : ℕ) (values : List ℤ) (room : ℕ) where
         20 (inr (omega arith)) (every (readable plane blocks)) 0
 
     -- where the tests are passed, the values are those of the blocks, and the table is one
-    ac_passed : ((v : Verdict ℤ) → ac_tests v ≡ v) → Twice (λ bytes. ac_blocks codes 0 none (cut blocks values) (start bytes))
+    ac_passed : ((v : Verdict ℤ) → ac_tests v ≡ v) → Twice (λ bytes. ac_blocks codes 0 None (cut blocks values) (start bytes))
     ac_passed f =
         let a = need_given (every (readable plane blocks)) 20 0 _ [] (f (given [])) in
         let b = need_given (eqb (length values) (63 * blocks)) 21 0 _ [] a.1 in
@@ -298,4 +296,4 @@ module _ (plane blocks : ℕ) (values : List ℤ) (room : ℕ) where
 
     pub ac_which : WhichByte (λ bytes. read_ac plane blocks codes values bytes room)
     unfolding read_ac
-    ac_which = which (λ bytes. ac_blocks codes 0 none (cut blocks values) (start bytes)) ac_tests ac_front ac_passed
+    ac_which = which (λ bytes. ac_blocks codes 0 None (cut blocks values) (start bytes)) ac_tests ac_front ac_passed

@@ -2,7 +2,7 @@
 use mathlib.Core.Path.{◌≡◌, refl, ◌∙◌}
 use mathlib.Core.Bool.{Bool, true, false, cond}
 use mathlib.Core.List.{List, [], ◌∷◌, ◌++◌, map, append_assoc}
-use mathlib.Core.Option.{Option, none, some}
+use Rattle.std.specs.Prelude.{Option, Some, None}
 use Prim.Native.Nat.{ℕ, suc, ◌+◌, ◌-◌, ◌*◌, ◌^◌, ◌<◌}
 use native.Mathlib.Omega.{arith}
 use lib.Dec.{T, ltb}
@@ -11,8 +11,6 @@ use lib.ListN.{replicate}
 use borrow.Author.Tests.{ltb-true}
 use Rattle.laws.specs.Index.{every}
 use Rattle.laws.specs.First.{first_fail, or_here}
-use Rattle.laws.specs.declared.Found.{Found}
-use Rattle.laws.specs.declared.Found.TheVariants.{At, Nothing}
 use Rattle.laws.proofs.Lists.{each}
 use Rattle.bit_rules.specs.Digits.{digits}
 use Rattle.bit_rules.specs.Table.{Table, table, code_count, kraft, holds, distinct, good_table}
@@ -33,9 +31,9 @@ every_good = refl
 
 -- ---- the codes that it holds
 
-there : Found → Bool
-there (At k) = true
-there Nothing = false
+there : Option ℕ → Bool
+there (Some k) = true
+there None = false
 
 held : ℕ → Bool
 held v = there (place_of v every_code.values)
@@ -52,9 +50,9 @@ missing_code : (v : ℕ) (rest : List Token) → T (held v) → lacking every_co
 unfolding lacking held there
 missing_code v rest h = go (place_of v every_code.values) h
   where
-    go : (f : Found) → T (there f) → or_else v f (lacking every_code rest) ≡ lacking every_code rest
-    go Nothing h = absurd h
-    go (At k) h = refl
+    go : (f : Option ℕ) → T (there f) → or_else v f (lacking every_code rest) ≡ lacking every_code rest
+    go None h = absurd h
+    go (Some k) h = refl
 
 missing_raw : (bits : List Bool) (rest : List Token) → lacking every_code (map raw bits ++ rest) ≡ lacking every_code rest
 unfolding lacking
@@ -71,18 +69,18 @@ plan_low : (kinds : List Kind) (later : List (List Kind)) → Low (plan kinds la
 unfolding plan
 plan_low kinds later = go (ahead kinds)
   where
-    near : (p : ℕ × Bool) (b : Bool) → ltb p.0 16 ≡ b → Low (cond b (walk p.0 (some p.1)) (walk 15 none))
+    near : (p : ℕ × Bool) (b : Bool) → ltb p.0 16 ≡ b → Low (cond b (walk p.0 (Some p.1)) (walk 15 None))
     near p true q = ltb-true p.0 16 q
     near p false q = omega arith
 
     go : (o : Option (ℕ × Bool)) → Low (planned o (quiet later))
-    go none = tt
-    go (some p) = near p (ltb p.0 16) refl
+    go None = tt
+    go (Some p) = near p (ltb p.0 16) refl
 
 emit_held : (t : Task) (rest : List Token) → Low t → lacking every_code (emit t ++ rest) ≡ lacking every_code rest
 unfolding emit lacking
-emit_held (walk n none) rest h = missing_code (16 * n) rest (held_rest n h)
-emit_held (walk n (some b)) rest h = missing_code (16 * n + 1) (raw b ∷ rest) (held_new n h)
+emit_held (walk n None) rest h = missing_code (16 * n) rest (held_rest n h)
+emit_held (walk n (Some b)) rest h = missing_code (16 * n + 1) (raw b ∷ rest) (held_new n h)
 emit_held (ended n) rest h =
     let r : ℕ = class (suc n) in
     missing_code (16 * r) (map raw (digits r (suc n - 2 ^ r)) ++ rest) (held_rest r (omega (arith, order_most 14 (suc n)))) ∙ missing_raw (digits r (suc n - 2 ^ r)) rest
@@ -94,8 +92,8 @@ mark_held still rest = refl
 mark_held (fresh b) rest = refl
 
 tell_held : (o : Option Task) (kinds : List Kind) (later : List (List Kind)) (rest : List Token) → lacking every_code (tell o (choose o kinds later) ++ rest) ≡ lacking every_code rest
-tell_held none kinds later rest = emit_held (plan kinds later) rest (plan_low kinds later)
-tell_held (some t) kinds later rest = refl
+tell_held None kinds later rest = emit_held (plan kinds later) rest (plan_low kinds later)
+tell_held (Some t) kinds later rest = refl
 
 block_held : (o : Option Task) (kinds : List Kind) (later : List (List Kind)) (rest : List Token) → lacking every_code ((write_block o kinds later).0 ++ rest) ≡ lacking every_code rest
 unfolding write_block
@@ -105,12 +103,12 @@ block_held o (x ∷ kinds) later rest =
     let r : List Token = (write_block (after t x) kinds later).0 in
     simp append_assoc (tell_held o (x ∷ kinds) later (mark x ++ (r ++ rest)) ∙ mark_held x (r ++ rest) ∙ block_held (after t x) kinds later rest)
 
-blocks_held : (o : Option Task) (bs : List (List Kind)) → lacking every_code (write_blocks o bs) ≡ Nothing
+blocks_held : (o : Option Task) (bs : List (List Kind)) → lacking every_code (write_blocks o bs) ≡ None
 unfolding write_blocks lacking
 blocks_held o [] = refl
 blocks_held o (b ∷ bs) = block_held o b bs (write_blocks (write_block o b bs).1 bs) ∙ blocks_held (write_block o b bs).1 bs
 
 -- no plane needs a code that it lacks
-pub every_held : (n : ℕ) (values : List ℤ) → lacking every_code (tokens n values) ≡ Nothing
+pub every_held : (n : ℕ) (values : List ℤ) → lacking every_code (tokens n values) ≡ None
 unfolding tokens
-every_held n values = blocks_held none _
+every_held n values = blocks_held None _

@@ -3,7 +3,7 @@ use mathlib.Core.Path.{◌≡◌, refl, sym, ap, ◌∙◌}
 use mathlib.Core.Logic.{⊎_elim}
 use mathlib.Core.Bool.{Bool, true, false, cond}
 use mathlib.Core.List.{List, [], ◌∷◌, ◌++◌}
-use mathlib.Core.Option.{none}
+use Rattle.std.specs.Prelude.{Option, Some, None}
 use Prim.Native.Nat.{ℕ, ◌-◌, ◌*◌, ◌≤◌, ◌<◌}
 use native.Mathlib.Omega.{arith}
 use borrow.Author.Tests.{eqb-true, leb-true, leb-false, lt-leb}
@@ -13,8 +13,6 @@ use lib.ListN.{length, get_or}
 use Rattle.box_rules.specs.Text.{listing, list_packets}
 use Rattle.laws.specs.Index.{every}
 use Rattle.laws.specs.First.{first_fail}
-use Rattle.laws.specs.declared.Found.{Found}
-use Rattle.laws.specs.declared.Found.TheVariants.{At, Nothing}
 use Rattle.laws.proofs.Choices.{at_one, at_nothing}
 use Rattle.answers.specs.Verdict.{Verdict, need, unless, fitting}
 use Rattle.levels.specs.Level.{inside, first_outside}
@@ -49,23 +47,23 @@ use Rattle.demands.proofs.Walked.{box_judged}
 use Rattle.demands.proofs.RetiredRow.{retired_judged}
 
 -- "value out of range", "first index", both ways
-outside_first : (part : Part) (level : ℕ) (values : List ℤ) (i : ℕ) → first_outside part level values ≡ At i → First (length values) (inside part level values) i
+outside_first : (part : Part) (level : ℕ) (values : List ℤ) (i : ℕ) → first_outside part level values ≡ Some i → First (length values) (inside part level values) i
 unfolding first_outside
 outside_first part level values i e = first_index (length values) (inside part level values) i e
 
-first_outside_lem : (part : Part) (level : ℕ) (values : List ℤ) (i : ℕ) → First (length values) (inside part level values) i → first_outside part level values ≡ At i
+first_outside_lem : (part : Part) (level : ℕ) (values : List ℤ) (i : ℕ) → First (length values) (inside part level values) i → first_outside part level values ≡ Some i
 unfolding first_outside
 first_outside_lem part level values i h = index_first (length values) (inside part level values) i h
 
 -- 11
 module _ {A : Type 0} {later : Rows} {room : ℕ} where
-  outside_judged : (part : Part) (level : ℕ) (values : List ℤ) (next : Verdict A) → (first_outside part level values ≡ Nothing → Judged later room next)
+  outside_judged : (part : Part) (level : ℕ) (values : List ℤ) (next : Verdict A) → (first_outside part level values ≡ None → Judged later room next)
       → Judged (row 11 (First (length values) (inside part level values)) then later) room (unless 11 (first_outside part level values) next)
   outside_judged part level values next =
       unless_judged (First (length values) (inside part level values)) 11 (first_outside part level values) next (outside_first part level values) (first_outside_lem part level values)
 
   -- 22
-  quantisers_judged : (quantisers : List ℕ) (next : Verdict A) → (first_bad_quantiser quantisers ≡ Nothing → Judged later room next)
+  quantisers_judged : (quantisers : List ℕ) (next : Verdict A) → (first_bad_quantiser quantisers ≡ None → Judged later room next)
       → Judged (bad_quantiser quantisers then later) room (unless 22 (first_bad_quantiser quantisers) next)
   unfolding first_bad_quantiser
   quantisers_judged quantisers next =
@@ -109,8 +107,8 @@ ac_read_judged plane blocks codes values bytes room =
     let n : sizes (cut blocks values) ≡ 63 * blocks = cut_sizes blocks values (eqb-true (length values) (63 * blocks) f) in
     let m : length (cut blocks values) ≡ blocks = cut_length blocks values in
     let l : 63 * blocks ≤ room = leb-true (63 * blocks) room g in
-    closed_judged (one_ac codes) none bs (start bytes) room ac_stops (length bytes) blocks (sizes (cut blocks values)) (ac_blocks codes 0 none (cut blocks values) (start bytes)) (omega arith)
-    (ac_blocks_lem (λ (m : ℕ). T (stands m ac_stops)) (length bytes) tt tt tt tt tt tt codes blocks 0 none (cut blocks values) (start bytes) (omega arith) (omega arith))
+    closed_judged (one_ac codes) None bs (start bytes) room ac_stops (length bytes) blocks (sizes (cut blocks values)) (ac_blocks codes 0 None (cut blocks values) (start bytes)) (omega arith)
+    (ac_blocks_lem (λ (m : ℕ). T (stands m ac_stops)) (length bytes) tt tt tt tt tt tt codes blocks 0 None (cut blocks values) (start bytes) (omega arith) (omega arith))
     (ac_stops_lem codes bs (start bytes)) (stops_ac codes bs (start bytes)) (ac_left codes bs (start bytes)) (left_ac codes bs (start bytes))
 
 -- ---- the listing
@@ -132,44 +130,44 @@ dc_write_judged plane blocks values room =
 
 -- 19, both ways
 
-lacking_none : (codes : Table) → lacking codes [] ≡ Nothing
+lacking_none : (codes : Table) → lacking codes [] ≡ None
 unfolding lacking
 lacking_none codes = refl
 
-code_held : (codes : Table) (w k : ℕ) → place_of w codes.values ≡ At k → lacking codes (code w ∷ []) ≡ Nothing
+code_held : (codes : Table) (w k : ℕ) → place_of w codes.values ≡ Some k → lacking codes (code w ∷ []) ≡ None
 unfolding lacking
 code_held codes w k q = rw q
 
-held_then : (w : ℕ) (f rest : Found) → or_else w f Nothing ≡ Nothing → or_else w f rest ≡ rest
-held_then w Nothing rest e = absurd (at_nothing e)
-held_then w (At k) rest e = refl
+held_then : (w : ℕ) (f rest : Option ℕ) → or_else w f None ≡ None → or_else w f rest ≡ rest
+held_then w None rest e = absurd (at_nothing e)
+held_then w (Some k) rest e = refl
 
 -- what is held does not matter
-lacking_on : (codes : Table) (t : Token) (ts : List Token) → lacking codes (t ∷ []) ≡ Nothing → lacking codes (t ∷ ts) ≡ lacking codes ts
+lacking_on : (codes : Table) (t : Token) (ts : List Token) → lacking codes (t ∷ []) ≡ None → lacking codes (t ∷ ts) ≡ lacking codes ts
 unfolding lacking
 lacking_on codes (raw b) ts e = refl
 lacking_on codes (code w) ts e = held_then w (place_of w codes.values) (lacking codes ts) e
 
-first_held : (w : ℕ) (f rest : Found) → or_else w f rest ≡ Nothing → (or_else w f Nothing ≡ Nothing) × (rest ≡ Nothing)
-first_held w Nothing rest e = absurd (at_nothing e)
-first_held w (At k) rest e = (refl, e)
+first_held : (w : ℕ) (f rest : Option ℕ) → or_else w f rest ≡ None → (or_else w f None ≡ None) × (rest ≡ None)
+first_held w None rest e = absurd (at_nothing e)
+first_held w (Some k) rest e = (refl, e)
 
-held_apart : (codes : Table) (t : Token) (ts : List Token) → lacking codes (t ∷ ts) ≡ Nothing → (lacking codes (t ∷ []) ≡ Nothing) × (lacking codes ts ≡ Nothing)
+held_apart : (codes : Table) (t : Token) (ts : List Token) → lacking codes (t ∷ ts) ≡ None → (lacking codes (t ∷ []) ≡ None) × (lacking codes ts ≡ None)
 unfolding lacking
 held_apart codes (raw b) ts e = (refl, e)
 held_apart codes (code w) ts e = first_held w (place_of w codes.values) (lacking codes ts) e
 
-lacks_here : (codes : Table) (v : ℕ) (later : List Token) → place_of v codes.values ≡ Nothing → lacking codes (code v ∷ later) ≡ At v
+lacks_here : (codes : Table) (v : ℕ) (later : List Token) → place_of v codes.values ≡ None → lacking codes (code v ∷ later) ≡ Some v
 unfolding lacking
 lacks_here codes v later n = rw n
 
-lacking_behind : (codes : Table) (earlier : List Token) (v : ℕ) (later : List Token) → lacking codes earlier ≡ Nothing → place_of v codes.values ≡ Nothing → lacking codes (earlier ++ (code v ∷ later)) ≡ At v
+lacking_behind : (codes : Table) (earlier : List Token) (v : ℕ) (later : List Token) → lacking codes earlier ≡ None → place_of v codes.values ≡ None → lacking codes (earlier ++ (code v ∷ later)) ≡ Some v
 lacking_behind codes [] v later h n = lacks_here codes v later n
 lacking_behind codes (t ∷ earlier) v later h n =
     let k = held_apart codes t earlier h in
     lacking_on codes t (earlier ++ (code v ∷ later)) k.0 ∙ lacking_behind codes earlier v later k.1 n
 
-more_lacking : (codes : Table) (t : Token) {ts : List Token} {v : ℕ} → lacking codes (t ∷ []) ≡ Nothing → FirstLacking codes ts v → FirstLacking codes (t ∷ ts) v
+more_lacking : (codes : Table) (t : Token) {ts : List Token} {v : ℕ} → lacking codes (t ∷ []) ≡ None → FirstLacking codes ts v → FirstLacking codes (t ∷ ts) v
 more_lacking codes t e h = record {
   earlier = t ∷ h.earlier;
   later = h.later;
@@ -178,19 +176,19 @@ more_lacking codes t e h = record {
   held = lacking_on codes t h.earlier e ∙ h.held;
 }
 
-lacked_here : (codes : Table) (w v : ℕ) (ts : List Token) (f : Found) → place_of w codes.values ≡ f → (lacking codes ts ≡ At v → FirstLacking codes ts v) → or_else w f (lacking codes ts) ≡ At v → FirstLacking codes (code w ∷ ts) v
-lacked_here codes w v ts Nothing q later h =
+lacked_here : (codes : Table) (w v : ℕ) (ts : List Token) (f : Option ℕ) → place_of w codes.values ≡ f → (lacking codes ts ≡ Some v → FirstLacking codes ts v) → or_else w f (lacking codes ts) ≡ Some v → FirstLacking codes (code w ∷ ts) v
+lacked_here codes w v ts None q later h =
     let same : w ≡ v = at_one h in
     record { earlier = []; later = ts; written = ap (λ (u : ℕ). code u ∷ ts) same; lacks = rw (← same) q; held = lacking_none codes }
-lacked_here codes w v ts (At k) q later h = more_lacking codes (code w) (code_held codes w k q) (later h)
+lacked_here codes w v ts (Some k) q later h = more_lacking codes (code w) (code_held codes w k q) (later h)
 
-lacked : (codes : Table) (ts : List Token) (v : ℕ) → lacking codes ts ≡ At v → FirstLacking codes ts v
+lacked : (codes : Table) (ts : List Token) (v : ℕ) → lacking codes ts ≡ Some v → FirstLacking codes ts v
 unfolding lacking
 lacked codes [] v e = absurd (at_nothing (sym e))
 lacked codes (raw b ∷ ts) v e = more_lacking codes (raw b) refl (lacked codes ts v e)
 lacked codes (code w ∷ ts) v e = lacked_here codes w v ts (place_of w codes.values) refl (lacked codes ts v) e
 
-lacking_first : (codes : Table) (ts : List Token) (v : ℕ) → FirstLacking codes ts v → lacking codes ts ≡ At v
+lacking_first : (codes : Table) (ts : List Token) (v : ℕ) → FirstLacking codes ts v → lacking codes ts ≡ Some v
 lacking_first codes ts v h = rw h.written (lacking_behind codes h.earlier v h.later h.held h.lacks)
 
 pub ac_write_judged : (plane blocks : ℕ) (codes : Table) (values : List ℤ) (room : ℕ) → Judged (ac_write_rows plane blocks codes values room) room (write_ac plane blocks codes values room)

@@ -3,7 +3,7 @@ use mathlib.Core.Path.{◌≡◌, refl, sym, ap, subst, ◌∙◌}
 use mathlib.Core.Logic.{inl, inr}
 use mathlib.Core.Bool.{Bool, true, false}
 use mathlib.Core.List.{List, [], ◌∷◌, ◌++◌, map, map-append}
-use mathlib.Core.Option.{Option, none, some}
+use Rattle.std.specs.Prelude.{Option, Some, None}
 use Prim.Native.Nat.{ℕ, zero, suc, ◌+◌, ◌*◌, ◌/◌, ◌<◌}
 use native.Mathlib.Omega.{arith}
 use lib.IntN.{ℤ, pos, negsuc}
@@ -92,9 +92,9 @@ dc_values_are plane blocks values bytes room ys h b l = dc_each values 0 (start 
 
 half_zero : (t : Task) → toward_zero 1 (at_zero t) ≡ pos 0
 unfolding toward_zero
-half_zero (walk zero none) = refl
-half_zero (walk zero (some true)) = refl
-half_zero (walk zero (some false)) = refl
+half_zero (walk zero None) = refl
+half_zero (walk zero (Some true)) = refl
+half_zero (walk zero (Some false)) = refl
 half_zero (walk (suc n) sign) = refl
 half_zero (ended n) = refl
 
@@ -138,9 +138,9 @@ cut_together (suc n) values e =
 module _ (codes : Table) where
   end_empty : (o : Option Task) (s : Source) (r : List ℤ × Option Task) (u : Source) → block_end o s ≡ got r u → r.0 ≡ []
   unfolding block_end
-  end_empty none s r u e = let h = (got_both e).0 in rw (← h)
-  end_empty (some (ended n)) s r u e = let h = (got_both e).0 in rw (← h)
-  end_empty (some (walk n sign)) s r u e = absurd (stopped_got e)
+  end_empty None s r u e = let h = (got_both e).0 in rw (← h)
+  end_empty (Some (ended n)) s r u e = let h = (got_both e).0 in rw (← h)
+  end_empty (Some (walk n sign)) s r u e = absurd (stopped_got e)
 
   pub half_block : (left : ℕ) (values : List ℤ) (o : Option Task) (s : Source) (r : List ℤ × Option Task) (u : Source) → ac_block codes left o values s ≡ got r u → map (toward_zero 1) r.0 ≡ values
   unfolding ac_block
@@ -175,5 +175,5 @@ half_at (y ∷ ys) (suc i) = half_at ys i
 
 pub ac_values_are : AcValuesAre
 ac_values_are plane blocks codes values bytes room ys h i l =
-    let e : map (toward_zero 1) ys ≡ values = half_blocks codes (cut blocks values) 0 none (start bytes) ys h.left h.refined ∙ cut_together blocks values h.long in
+    let e : map (toward_zero 1) ys ≡ values = half_blocks codes (cut blocks values) 0 None (start bytes) ys h.left h.refined ∙ cut_together blocks values h.long in
     sym (half_at ys i) ∙ ap (λ (zs : List ℤ). get_or zs i (pos 0)) e

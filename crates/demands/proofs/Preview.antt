@@ -15,7 +15,7 @@ use lib.Seq.{get_or-append-add, ext_get_or}
 use lib.Signed.{shr_z}
 use Rattle.laws.specs.Index.{sum_to, total_to, tab, join_to, every}
 use Rattle.laws.specs.Apart.{apart, apart_rounded}
-use Rattle.laws.specs.declared.Found.TheVariants.{Nothing}
+use Rattle.std.specs.Prelude.{None}
 use Rattle.laws.proofs.Apart.{apart_pos, apart_neg, apart_term, apart_sum, sum_apart, rounds_half, rounded_alike, rounded_rises}
 use Rattle.laws.proofs.First.{all_pass}
 use Rattle.laws.proofs.Lists.{length_tab, get_or_tab, tab_ext, join_length, join_ext, join_front, each}
@@ -170,7 +170,7 @@ module _ (level n : ℕ) (values : Both ℤ) (few : level ≤ 4) (a : Within lev
   one_inside block (suc i) h l =
       rw (ne_eqb (suc i) 0 (λ e. omega arith), whole_ac n values block i h (omega arith)) (all_inside Ac level values.ac few a.ac_range (block * 63 + i) (omega (arith, a.ac_count)))
 
-  whole_inside : first_outside Whole level (whole n values) ≡ Nothing
+  whole_inside : first_outside Whole level (whole n values) ≡ None
   unfolding first_outside inside is_dc
   whole_inside =
       all_pass (length (whole n values)) (inside Whole level (whole n values))

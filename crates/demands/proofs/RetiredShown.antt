@@ -1,7 +1,8 @@
 -- Level 4: what follows from the law. Assumes nothing.
 use mathlib.Core.Path.{◌≡◌, refl, sym, ap, subst, ◌∙◌}
 use mathlib.Core.List.{List}
-use mathlib.Core.Option.{some, none-ne-some, some-injective}
+use Rattle.std.specs.Prelude.{Some}
+use Rattle.std.proofs.lemmas.Option.{none-some, same_Some}
 use Prim.Native.Nat.{ℕ, ◌≤◌}
 use lib.ListN.{length}
 use borrow.Author.Tests.{ne_eqb, le-leb}
@@ -27,12 +28,12 @@ handed_by : {A : Type 0} {zero : A} {before after : List A} {answer : Answer} (v
 handed_by {A} {zero} {before} {after} {answer} v ys e m = handed ys (subst (λ (w : Verdict A). Meets zero w before after answer) e m)
 
 -- a plane that is accepted is accepted by both calls
-each_given : (v w : Verdict ℕ) (bytes : Both ℕ) → together v w ≡ some bytes → (v ≡ given bytes.dc) × (w ≡ given bytes.ac)
+each_given : (v w : Verdict ℕ) (bytes : Both ℕ) → together v w ≡ Some bytes → (v ≡ given bytes.dc) × (w ≡ given bytes.ac)
 each_given (given dc) (given ac) bytes e =
-    let same : record { dc = dc; ac = ac } ≡ bytes = some-injective _ bytes e in
+    let same : record { dc = dc; ac = ac } ≡ bytes = same_Some _ bytes e in
     (ap (λ (b : Both ℕ). given b.dc) same, ap (λ (b : Both ℕ). given b.ac) same)
-each_given (given dc) (refused r) bytes e = absurd (none-ne-some bytes e)
-each_given (refused r) w bytes e = absurd (none-ne-some bytes e)
+each_given (given dc) (refused r) bytes e = absurd (none-some bytes e)
+each_given (refused r) w bytes e = absurd (none-some bytes e)
 
 four : (blocks : ℕ) (rest : Verdict ℕ) → blocks ≤ 1024 → but_level_four 4 blocks rest ≡ refused (refusal 28 0)
 unfolding every

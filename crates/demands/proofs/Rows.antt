@@ -10,8 +10,7 @@ use lib.ListN.{length, drop, length-append, length-drop}
 use lib.Seq.{drop-append_seam}
 use borrow.Author.Tests.{leb-true, leb-false}
 use Rattle.laws.specs.First.{first_fail}
-use Rattle.laws.specs.declared.Found.{Found}
-use Rattle.laws.specs.declared.Found.TheVariants.{At, Nothing}
+use Rattle.std.specs.Prelude.{Option, Some, None}
 use Rattle.laws.proofs.First.{first_at, first_found, all_pass}
 use Rattle.laws.proofs.Choices.{true_false, at_one, at_nothing}
 use Rattle.answers.specs.Verdict.{Verdict, given, refused, refusal_at, refusal, need, unless, fitting, Meets}
@@ -66,10 +65,10 @@ module _ {A : Type 0} {later : Rows} {room : ℕ} where
   failing_judged ok number next = need_judged (failing ok) ok number 0 next (λ e. (refl, e)) (λ q h. (h.1, h.0))
 
   -- a search: its row tells exactly what was found
-  pub unless_judged : (means : ℕ → Type 0) (number : ℕ) (found : Found) (next : Verdict A) → ((i : ℕ) → found ≡ At i → means i) → ((q : ℕ) → means q → found ≡ At q)
-      → (found ≡ Nothing → Judged later room next) → Judged (row number means then later) room (unless number found next)
-  unless_judged means number (At i) next f g j = told (refusal number i) (refl, f i refl, refl) (λ m q s h. (h.0, sym (at_one (g q h.1)), h.2))
-  unless_judged means number Nothing next f g j = passed (λ m q s h. at_nothing (sym (g q h.1))) (j refl)
+  pub unless_judged : (means : ℕ → Type 0) (number : ℕ) (found : Option ℕ) (next : Verdict A) → ((i : ℕ) → found ≡ Some i → means i) → ((q : ℕ) → means q → found ≡ Some q)
+      → (found ≡ None → Judged later room next) → Judged (row number means then later) room (unless number found next)
+  unless_judged means number (Some i) next f g j = told (refusal number i) (refl, f i refl, refl) (λ m q s h. (h.0, sym (at_one (g q h.1)), h.2))
+  unless_judged means number None next f g j = passed (λ m q s h. at_nothing (sym (g q h.1))) (j refl)
 
 -- "length needed", behind all other rows
 pub fitting_judged : {A : Type 0} (room n : ℕ) (ys : List A) → length ys ≡ n → Judged (row 9 (needed n room)) room (fitting room ys)
@@ -82,10 +81,10 @@ fitting_judged {A} room n ys e = go (leb (length ys) room) refl
     }
     go false t = told_last (refusal 9 (length ys)) (refl, (e, leb-false (length ys) room t), refl) (λ m q s h. (h.0, h.1.0 ∙ sym e, h.2))
 
-pub first_index : (n : ℕ) (test : ℕ → Bool) (i : ℕ) → first_fail n test ≡ At i → First n test i
+pub first_index : (n : ℕ) (test : ℕ → Bool) (i : ℕ) → first_fail n test ≡ Some i → First n test i
 first_index n test i e = let r = first_at n test e in record { below = r.0; fails = r.1; before = r.2 }
 
-pub index_first : (n : ℕ) (test : ℕ → Bool) (i : ℕ) → First n test i → first_fail n test ≡ At i
+pub index_first : (n : ℕ) (test : ℕ → Bool) (i : ℕ) → First n test i → first_fail n test ≡ Some i
 index_first n test i h = first_found test n i h.below (all_pass i test h.before) h.fails
 
 -- no row has the number 0

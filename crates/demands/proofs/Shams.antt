@@ -3,7 +3,7 @@ use mathlib.Core.Path.{◌≡◌, refl, sym, ap, ◌∙◌}
 use mathlib.Core.Logic.{◌⊎◌, inl, inr, ⊎_elim}
 use mathlib.Core.Bool.{Bool, true, false, cond}
 use mathlib.Core.List.{List, [], ◌∷◌, map}
-use mathlib.Core.Option.{Option, none, some}
+use Rattle.std.specs.Prelude.{Option, Some, None}
 use Prim.Native.Nat.{ℕ, zero, suc}
 use native.Mathlib.Omega.{arith}
 use borrow.Author.Tests.{eqb-true}
@@ -134,8 +134,8 @@ kept_on_refusal answer h = go h.outcome
 
 -- the first DC value of what a climb came to
 first_dc : Option (Both ℤ) → ℕ
-first_dc none = 0
-first_dc (some values) = nat_abs (get_or values.dc 0 (pos 0))
+first_dc None = 0
+first_dc (Some values) = nat_abs (get_or values.dc 0 (pos 0))
 
 final_at_once : FinalAtOnce
 unfolding level_of downward first_dc

@@ -3,7 +3,7 @@ use mathlib.Core.Path.{◌≡◌, refl, sym, ap, subst, ◌∙◌}
 use mathlib.Core.Logic.{inl, inr}
 use mathlib.Core.Bool.{Bool, true, false}
 use mathlib.Core.List.{List, [], ◌∷◌}
-use mathlib.Core.Option.{Option, none, some}
+use Rattle.std.specs.Prelude.{Option, Some, None}
 use Prim.Native.Nat.{ℕ, zero, suc, ◌+◌, ◌-◌, ◌*◌, ◌/◌, ◌%◌, ◌^◌, ◌≤◌, ◌<◌}
 use native.Mathlib.Omega.{arith}
 use lib.Dec.{T, ltb, leb}
@@ -90,8 +90,8 @@ module _ (P : ℕ → Type 0) (all : ℕ) where
 
       task_at_lem : (codes : Table) (left : ℕ) (o : Option Task) (s : Source) → Kept s → Stops Any (task_at codes left o s)
       unfolding task_at take_code
-      task_at_lem codes left (some t) s k = (tt, k)
-      task_at_lem codes left none s k =
+      task_at_lem codes left (Some t) s k = (tt, k)
+      task_at_lem codes left None s k =
           onward Any Any _ (code_from codes.counts codes.values 0 s) (code_from_lem codes.counts codes.values 0 s k) λ v h t l. meant left (v / 16) (v % 16) t l
 
       at_position : (t : Task) (c : ℤ) (s : Source) → Kept s → Stops Any (position t c s)
@@ -105,9 +105,9 @@ module _ (P : ℕ → Type 0) (all : ℕ) where
 
       at_end : (o : Option Task) (s : Source) → Kept s → Stops (Long 0) (block_end o s)
       unfolding block_end
-      at_end none s k = (refl, k)
-      at_end (some (ended n)) s k = (refl, k)
-      at_end (some (walk n sign)) s k = p16
+      at_end None s k = (refl, k)
+      at_end (Some (ended n)) s k = (refl, k)
+      at_end (Some (walk n sign)) s k = p16
 
       one_block : (codes : Table) (left : ℕ) (o : Option Task) (values : List ℤ) (s : Source) → Kept s → Stops (Long (length values)) (ac_block codes left o values s)
       unfolding ac_block

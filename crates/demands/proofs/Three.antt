@@ -1,7 +1,7 @@
 -- Demand 3 holds, and its conditions can be met. Assumes nothing.
 use mathlib.Core.Path.{◌≡◌, ap₂, ◌∙◌}
 use mathlib.Core.List.{List}
-use mathlib.Core.Option.{some}
+use Rattle.std.specs.Prelude.{Some}
 use Prim.Native.Nat.{ℕ, zero, suc, ◌-◌, ◌*◌, ◌≤◌, ◌<◌}
 use native.Mathlib.Omega.{arith}
 use lib.IntN.{ℤ}
@@ -20,14 +20,14 @@ module _ (k n : ℕ) (full : Both ℤ) (lent : ℕ → Provided) (few : k ≤ 4)
   bytes : ℕ → Both ℕ
   bytes j = record { dc = dc_bytes (level_of k full j).dc; ac = ac_bytes n (lent j).table (level_of k full j).ac }
 
-  written : (j : ℕ) → 1 ≤ j → j ≤ k → write_plane j n (lent j) (level_of k full j) ≡ some (bytes j)
+  written : (j : ℕ) → 1 ≤ j → j ≤ k → write_plane j n (lent j) (level_of k full j) ≡ Some (bytes j)
   unfolding bytes level_of write_plane
   written zero h l = absurd (omega arith)
   written (suc j) h l =
       let e = enough (suc j) h l in
       rw (dc_written_lem k n few a.few full.dc a.dc_count a.dc_range (writer_of (suc j)) j (lent (suc j)).dc_room (theirs (suc j)) l e.dc_room, ac_written_lem k n few a.few full.ac a.ac_count a.ac_range (lent (suc j)).table j l e.good e.codes (writer_of (suc j)) (lent (suc j)).ac_room (theirs (suc j)) e.ac_room)
 
-  next : (j : ℕ) → j < k → read_plane (suc j) n (lent (suc j)) (bytes (suc j)) (level_of k full j) ≡ some (level_of k full (suc j))
+  next : (j : ℕ) → j < k → read_plane (suc j) n (lent (suc j)) (bytes (suc j)) (level_of k full j) ≡ Some (level_of k full (suc j))
   unfolding bytes level_of read_plane
   next j l =
       let e = enough (suc j) (omega arith) l in

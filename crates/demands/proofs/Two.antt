@@ -2,7 +2,7 @@
 use mathlib.Core.Path.{◌≡◌, refl, sym, ap, subst, ◌∙◌}
 use mathlib.Core.Bool.{Bool, true}
 use mathlib.Core.List.{List, [], ◌∷◌}
-use mathlib.Core.Option.{none}
+use Rattle.std.specs.Prelude.{None}
 use Prim.Native.Nat.{ℕ, ◌-◌, ◌*◌, ◌≤◌}
 use native.Mathlib.Omega.{arith}
 use borrow.Author.Tests.{eqb-true, eq-eqb, leb-true, le-leb}
@@ -125,14 +125,14 @@ module _ (plane blocks : ℕ) (values : List ℤ) (bytes : List ℕ) (room : ℕ
         let t = need_given (good_table codes) 10 0 _ ys b.1 in
         let c = unless_given 11 (first_outside Ac (plane - 1) values) _ ys t.1 in
         let d = need_given (leb (63 * blocks) room) 9 (63 * blocks) _ ys c.1 in
-        let h = closed_given (ac_blocks codes 0 none (cut blocks values) (start bytes)) ys d.1 in
+        let h = closed_given (ac_blocks codes 0 None (cut blocks values) (start bytes)) ys d.1 in
         record { counts = a.0; long = eqb-true (length values) (63 * blocks) b.0; good = t.0; ranged = c.0; fits = leb-true (63 * blocks) room d.0; left = h.left; refined = h.refined; padded = h.padded }
 
     ac_given : (ys : List ℤ) → AcRefined plane blocks codes values bytes room ys → read_ac plane blocks codes values bytes room ≡ given ys
     unfolding read_ac
     ac_given ys h =
         rw (h.counts, eq-eqb (length values) (63 * blocks) h.long, h.good, h.ranged, le-leb (63 * blocks) room h.fits)
-        (given_closed (ac_blocks codes 0 none (cut blocks values) (start bytes)) ys h.left h.refined h.padded)
+        (given_closed (ac_blocks codes 0 None (cut blocks values) (start bytes)) ys h.left h.refined h.padded)
 
 -- ---- writing planes
 

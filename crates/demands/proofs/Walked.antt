@@ -7,12 +7,10 @@ use Prim.Native.Nat.{ℕ, zero, suc, ◌+◌, ◌≤◌, ◌<◌}
 use native.Mathlib.Omega.{arith}
 use lib.Dec.{eqb, leb, ltb}
 use lib.ListN.{length, get_or, drop}
-use Rattle.laws.specs.declared.Found.TheVariants.{At}
+use Rattle.std.specs.Prelude.{Some, Result, Ok, Err}
 use Rattle.laws.proofs.Choices.{by_test, true_false}
 use Rattle.answers.specs.Verdict.{refusal_at, refusal}
 use Rattle.answers.specs.declared.Refusal.{Refusal}
-use Rattle.answers.specs.declared.Outcome.{Outcome}
-use Rattle.answers.specs.declared.Outcome.TheVariants.{Given, Refused}
 use Rattle.answers.proofs.Laws.{never_given}
 use Rattle.box_rules.specs.Walk.{be16, be32, head_at, long_head_at, held_at, ones, barred, tagged, packet_at, whole_at, sized_at, marked_at, step_at, steps_from, begins, walk, ending}
 use Rattle.box_rules.specs.declared.Head.{Head}
@@ -72,7 +70,7 @@ module _ (file : List ℕ) (at : ℕ) where
 
 -- ---- the walk
 
-refused_one : {r : Refusal} {n p q : ℕ} → Refused r ≡ Refused (refusal_at n p q) → (n ≡ r.number) × (p ≡ r.place) × (q ≡ r.second)
+refused_one : {r : Refusal} {n p q : ℕ} → Err r ≡ Err (refusal_at n p q) → (n ≡ r.number) × (p ≡ r.place) × (q ≡ r.second)
 refused_one {r} {n} {p} {q} e = let same : r ≡ refusal_at n p q = cc in rw same (refl, refl, refl)
 
 module _ (file : List ℕ) where
@@ -84,12 +82,12 @@ module _ (file : List ℕ) where
   broken_row at reached f q (inr h) = subst (λ (x : Refusal). walk_rows x.number x.place x.second) (sym h) (tt, (reached, q ∙ ap Broken h, refl))
 
   -- one step, and what is known of the walk behind it
-  step_rows : (at : ℕ) → Reached file at → (r : Refusal) → ending (steps_from file at) ≡ Refused r
-      → ((next : ℕ) → at < next → next ≤ length file → Reached file next → ending (steps_from file next) ≡ Refused r → walk_rows r.number r.place r.second)
+  step_rows : (at : ℕ) → Reached file at → (r : Refusal) → ending (steps_from file at) ≡ Err r
+      → ((next : ℕ) → at < next → next ≤ length file → Reached file next → ending (steps_from file next) ≡ Err r → walk_rows r.number r.place r.second)
       → (s : Step) → step_at file at ≡ s → walk_rows r.number r.place r.second
   step_rows at reached r e onward End q = absurd (never_given (sym e ∙ ending_end file at q))
   step_rows at reached r e onward (Broken f) q =
-      let w : Refused f ≡ Refused r = sym (ending_broken file at q) ∙ e in
+      let w : Err f ≡ Err r = sym (ending_broken file at q) ∙ e in
       let same : f ≡ r = cc in
       subst (λ (x : Refusal). walk_rows x.number x.place x.second) same (broken_row at reached f q (subst (BrokenIs at) q (broken_step file at)))
   step_rows at reached r e onward (Skip next) q = let h = forward_skip file at q in onward next h.0 h.1 (skipped reached q) (sym (ending_skip file at q) ∙ e)
@@ -97,7 +95,7 @@ module _ (file : List ℕ) where
       let h = forward_meet file at q in
       onward next (omega (arith, h.0, h.1)) h.2 (met reached q) (sym (ending_meet file at q) ∙ e)
 
-  walk_rows_lem : (k at : ℕ) → length file ≤ at + k → Reached file at → (r : Refusal) → ending (steps_from file at) ≡ Refused r → walk_rows r.number r.place r.second
+  walk_rows_lem : (k at : ℕ) → length file ≤ at + k → Reached file at → (r : Refusal) → ending (steps_from file at) ≡ Err r → walk_rows r.number r.place r.second
   walk_rows_lem zero at l reached r e = step_rows at reached r e (λ next h m g q. absurd (omega arith)) (step_at file at) refl
   walk_rows_lem (suc k) at l reached r e = step_rows at reached r e (λ next h m g q. walk_rows_lem k next (omega arith) g r q) (step_at file at) refl
 
@@ -107,15 +105,15 @@ module _ (file : List ℕ) where
   ends_alike (skipped {at} h q) = sym (ending_skip file at q) ∙ ends_alike h
   ends_alike (met {at} h q) = sym (ending_meet file at q) ∙ ends_alike h
 
-  rows_walk : (n p q : ℕ) → walk_rows n p q → ending (steps_from file 2) ≡ Refused (refusal_at n p q)
+  rows_walk : (n p q : ℕ) → walk_rows n p q → ending (steps_from file 2) ≡ Err (refusal_at n p q)
   rows_walk n p q h = sym (ends_alike h.1.0) ∙ (ending_broken file p h.1.1 ∙ rw h.1.2)
 
 -- ---- the packets of one box
 
-twice_both : (ns : List ℕ) (q : ℕ) → twice_at ns q → first_twice ns ≡ At q
+twice_both : (ns : List ℕ) (q : ℕ) → twice_at ns q → first_twice ns ≡ Some q
 twice_both ns q h = twice_is ns q h.0 h.1
 
-missing_both : (ns : List ℕ) (q : ℕ) → missing_at ns q → missing_from (length ns) 1 ns ≡ At q
+missing_both : (ns : List ℕ) (q : ℕ) → missing_at ns q → missing_from (length ns) 1 ns ≡ Some q
 missing_both ns q h = missing_is ns (length ns) 1 q h.0 h.1 h.2 h.3
 
 packets_judged : (ps : List Packet) (room : ℕ) → Judged (packet_rows ps room) room (assemble room ps)
@@ -137,10 +135,10 @@ pub box_judged : (file : List ℕ) (kind instance room : ℕ) → Judged (box_ro
 unfolding box_bytes box_rows
 box_judged file kind instance room = start (begins file) refl
   where
-    walked : begins file ≡ true → (o : Outcome) → ending (steps_from file 2) ≡ o
+    walked : begins file ≡ true → (o : Result ℕ Refusal) → ending (steps_from file 2) ≡ o
         → Judged (rows (2 ∷ 3 ∷ []) (broken_at file) then packet_rows (mine kind instance (packets file)) room) room (after_walk o (assemble room (mine kind instance (packets file))))
-    walked b (Given n) e = passed (λ m q s h. never_given (sym (rows_walk file m q s h) ∙ e)) (packets_judged (mine kind instance (packets file)) room)
-    walked b (Refused r) e = told r (walk_rows_lem file (length file) 2 (omega arith) first r e) (λ m q s h. refused_one (sym e ∙ rows_walk file m q s h))
+    walked b (Ok n) e = passed (λ m q s h. never_given (sym (rows_walk file m q s h) ∙ e)) (packets_judged (mine kind instance (packets file)) room)
+    walked b (Err r) e = told r (walk_rows_lem file (length file) 2 (omega arith) first r e) (λ m q s h. refused_one (sym e ∙ rows_walk file m q s h))
 
     start : (b : Bool) → begins file ≡ b → Judged (row 1 (failing (begins file)) then rows (2 ∷ 3 ∷ []) (broken_at file) then packet_rows (mine kind instance (packets file)) room) room (after_walk (ending (walk file)) (assemble room (mine kind instance (packets file))))
     start true b =

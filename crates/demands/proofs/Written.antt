@@ -2,7 +2,7 @@
 use mathlib.Core.Path.{◌≡◌, refl, sym, ap, ◌∙◌}
 use mathlib.Core.Bool.{Bool, true, false, cond}
 use mathlib.Core.List.{List, [], ◌∷◌, ◌++◌, map}
-use mathlib.Core.Option.{Option, none, some}
+use Rattle.std.specs.Prelude.{Option, Some, None}
 use Prim.Native.Nat.{ℕ, zero, suc, ◌≤◌, ◌<◌}
 use native.Mathlib.Omega.{arith}
 use borrow.Author.Tests.{ltb-false}
@@ -30,7 +30,7 @@ zero_minus : pos 0 ≡ negsuc 0 → ⊥
 zero_minus e = let z : ◌≡◌ {A = ℕ} 0 1 = ap nat_abs e in omega arith
 
 -- a value that a position in an end run comes to is no new one
-no_new : (n : ℕ) (x : ℤ) (s : Source) (y : ℤ × Option Task) (u : Source) → position (ended n) (ac_half x) s ≡ got y u → y.0 ≡ x → (kinds : List Kind) → ahead kinds ≡ none → ahead (kind_of x ∷ kinds) ≡ none
+no_new : (n : ℕ) (x : ℤ) (s : Source) (y : ℤ × Option Task) (u : Source) → position (ended n) (ac_half x) s ≡ got y u → y.0 ≡ x → (kinds : List Kind) → ahead kinds ≡ None → ahead (kind_of x ∷ kinds) ≡ None
 unfolding position ac_half ahead one_more
 no_new n (pos zero) s y u e q kinds h = rw (kind_zero, h)
 no_new n (pos (suc zero)) s y u e q kinds h = let z : pos 0 ≡ pos 1 = ap (λ (p : ℤ × Option Task). p.0) (got_both e).0 ∙ q in absurd (zero_one z)
@@ -38,7 +38,7 @@ no_new n (pos (suc (suc m))) s y u e q kinds h = rw (kind_up m) h
 no_new n (negsuc zero) s y u e q kinds h = let z : pos 0 ≡ negsuc 0 = ap (λ (p : ℤ × Option Task). p.0) (got_both e).0 ∙ q in absurd (zero_minus z)
 no_new n (negsuc (suc m)) s y u e q kinds h = rw (kind_down m) h
 
-stays : (n : ℕ) (c : ℤ) (s : Source) (y : ℤ × Option Task) (u : Source) → position (ended n) c s ≡ got y u → y.1 ≡ some (ended n)
+stays : (n : ℕ) (c : ℤ) (s : Source) (y : ℤ × Option Task) (u : Source) → position (ended n) c s ≡ got y u → y.1 ≡ Some (ended n)
 unfolding position
 stays n (pos zero) s y u e = sym (ap (λ (p : ℤ × Option Task). p.1) (got_both e).0)
 stays n (pos (suc m)) s y u e = let w = came _ (take_bit s) y u e in sym (ap (λ (p : ℤ × Option Task). p.1) (got_both w.then).0)
@@ -51,14 +51,14 @@ rest_same : {x y : ℤ} {xs ys : List ℤ} → x ∷ xs ≡ y ∷ ys → xs ≡ 
 rest_same e = ap (λ (l : List ℤ). drop 1 l) e
 
 module _ (T : Table) where
-  run_block : (left n : ℕ) (values : List ℤ) (s : Source) (r : List ℤ × Option Task) (u : Source) → ac_block T left (some (ended n)) (map ac_half values) s ≡ got r u → r.0 ≡ values
-      → (ahead (map kind_of values) ≡ none) × (r.1 ≡ over (some (ended n)))
+  run_block : (left n : ℕ) (values : List ℤ) (s : Source) (r : List ℤ × Option Task) (u : Source) → ac_block T left (Some (ended n)) (map ac_half values) s ≡ got r u → r.0 ≡ values
+      → (ahead (map kind_of values) ≡ None) × (r.1 ≡ over (Some (ended n)))
   unfolding ac_block block_end task_at ahead
   run_block left n [] s r u e q = (refl, sym (ap (λ (p : List ℤ × Option Task). p.1) (got_both e).0))
   run_block left n (x ∷ values) s r u e q =
       let b = came _ (position (ended n) (ac_half x) s) r u e in
       let y : ℤ × Option Task = b.value in
-      let o : y.1 ≡ some (ended n) = stays n (ac_half x) s b.value b.source b.first in
+      let o : y.1 ≡ Some (ended n) = stays n (ac_half x) s b.value b.source b.first in
       let d = came _ (ac_block T left y.1 (map ac_half values) b.source) r u b.then in
       let h : (y.0 ∷ d.value.0, d.value.1) ≡ r = (got_both d.then).0 in
       let f : y.0 ∷ d.value.0 ≡ x ∷ values = ap (λ (p : List ℤ × Option Task). p.0) h ∙ q in
@@ -72,28 +72,28 @@ module _ (T : Table) where
     sym (drop-append_seam ys rest) ∙ (ap (λ (n : ℕ). drop n (ys ++ rest)) l ∙ (ap (drop (length values)) (sym e) ∙ drop-append_seam values more)),
   )
 
-  longest : (blocks : List (List ℤ)) (k n : ℕ) (s t : Source) → n < length blocks → ac_blocks T k (some (ended n)) (map (map ac_half) blocks) s ≡ read (together blocks) t → suc n ≤ quiet (map (map kind_of) blocks)
+  longest : (blocks : List (List ℤ)) (k n : ℕ) (s t : Source) → n < length blocks → ac_blocks T k (Some (ended n)) (map (map ac_half) blocks) s ≡ read (together blocks) t → suc n ≤ quiet (map (map kind_of) blocks)
   unfolding ac_blocks quiet
   longest [] k n s t l e = absurd (omega arith)
-  longest (b ∷ bs) k n s t l e = go (longest bs (suc k)) (ac_block T (suc (length (map (map ac_half) bs))) (some (ended n)) (map ac_half b) s) refl e
+  longest (b ∷ bs) k n s t l e = go (longest bs (suc k)) (ac_block T (suc (length (map (map ac_half) bs))) (Some (ended n)) (map ac_half b) s) refl e
     where
-      further : ((n : ℕ) (s t : Source) → n < length bs → ac_blocks T (suc k) (some (ended n)) (map (map ac_half) bs) s ≡ read (together bs) t → suc n ≤ quiet (map (map kind_of) bs))
-          → (n : ℕ) (u : Source) → n < suc (length bs) → ac_blocks T (suc k) (over (some (ended n))) (map (map ac_half) bs) u ≡ read (together bs) t → suc n ≤ suc (quiet (map (map kind_of) bs))
+      further : ((n : ℕ) (s t : Source) → n < length bs → ac_blocks T (suc k) (Some (ended n)) (map (map ac_half) bs) s ≡ read (together bs) t → suc n ≤ quiet (map (map kind_of) bs))
+          → (n : ℕ) (u : Source) → n < suc (length bs) → ac_blocks T (suc k) (over (Some (ended n))) (map (map ac_half) bs) u ≡ read (together bs) t → suc n ≤ suc (quiet (map (map kind_of) bs))
       further ih zero u l e = omega arith
       further ih (suc m) u l e = let h = ih m u t (omega arith) e in omega arith
 
-      go : ((n : ℕ) (s t : Source) → n < length bs → ac_blocks T (suc k) (some (ended n)) (map (map ac_half) bs) s ≡ read (together bs) t → suc n ≤ quiet (map (map kind_of) bs))
-          → (x : Out (List ℤ × Option Task)) → ac_block T (suc (length (map (map ac_half) bs))) (some (ended n)) (map ac_half b) s ≡ x
+      go : ((n : ℕ) (s t : Source) → n < length bs → ac_blocks T (suc k) (Some (ended n)) (map (map ac_half) bs) s ≡ read (together bs) t → suc n ≤ quiet (map (map kind_of) bs))
+          → (x : Out (List ℤ × Option Task)) → ac_block T (suc (length (map (map ac_half) bs))) (Some (ended n)) (map ac_half b) s ≡ x
           → in_block k (λ r t. onto r.0 (ac_blocks T (suc k) r.1 (map (map ac_half) bs) t)) x ≡ read (b ++ together bs) t
           → suc n ≤ unless_new (ahead (map kind_of b)) (quiet (map (map kind_of) bs))
       go ih (stopped x) q e = absurd (refusing_read e)
       go ih (got r u) q e =
           let f = fronted r.0 (b ++ together bs) (ac_blocks T (suc k) r.1 (map (map ac_half) bs) u) t e in
-          let half : map (toward_zero 1) r.0 ≡ map ac_half b = half_block T _ (map ac_half b) (some (ended n)) s r u q in
+          let half : map (toward_zero 1) r.0 ≡ map ac_half b = half_block T _ (map ac_half b) (Some (ended n)) s r u q in
           let long : length r.0 ≡ length b = sym (length-map r.0 (toward_zero 1)) ∙ (ap length half ∙ length-map b ac_half) in
           let same = front_same b r.0 f.rest (together bs) long f.whole in
           let h = run_block _ n b s r u q same.0 in
-          let w : ac_blocks T (suc k) (over (some (ended n))) (map (map ac_half) bs) u ≡ read (together bs) t =
+          let w : ac_blocks T (suc k) (over (Some (ended n))) (map (map ac_half) bs) u ≡ read (together bs) t =
           sym (ap (λ (o : Option Task). ac_blocks T (suc k) o (map (map ac_half) bs) u) h.1) ∙ (f.after ∙ ap (λ (l : List ℤ). read l t) same.1) in
           rw h.0 (further ih n u l w)
 
@@ -104,7 +104,7 @@ longest_run T k n blocks s t = longest T blocks k n s t
 
 module _ (n : ℕ) (later : List (List Kind)) where
   -- inside a run nothing but corrections is written
-  run_marks : (kinds : List Kind) → write_block (some (ended n)) kinds later ≡ (marks kinds, over (some (ended n)))
+  run_marks : (kinds : List Kind) → write_block (Some (ended n)) kinds later ≡ (marks kinds, over (Some (ended n)))
   unfolding write_block
   run_marks [] = refl
   run_marks (keep b ∷ kinds) = rw (run_marks kinds)
@@ -123,16 +123,16 @@ pub sixteen_before_new : SixteenBeforeNew
 unfolding plan
 sixteen_before_new kinds later e = go (ahead kinds) refl e
   where
-    ended_walk : {n : ℕ} → ended n ≡ walk 15 none → ⊥
+    ended_walk : {n : ℕ} → ended n ≡ walk 15 None → ⊥
     ended_walk e = let z : ◌≡◌ {A = ℕ} 0 1 = cc in omega arith
 
-    told_walk : {n : ℕ} {b : Bool} → walk n (some b) ≡ walk 15 none → ⊥
+    told_walk : {n : ℕ} {b : Bool} → walk n (Some b) ≡ walk 15 None → ⊥
     told_walk e = let z : ◌≡◌ {A = ℕ} 0 1 = cc in omega arith
 
-    far : (n : ℕ) (b c : Bool) → ltb n 16 ≡ c → cond c (walk n (some b)) (walk 15 none) ≡ walk 15 none → 16 ≤ n
+    far : (n : ℕ) (b c : Bool) → ltb n 16 ≡ c → cond c (walk n (Some b)) (walk 15 None) ≡ walk 15 None → 16 ≤ n
     far n b true t e = absurd (told_walk e)
     far n b false t e = ltb-false n 16 t
 
-    go : (o : Option (ℕ × Bool)) → ahead kinds ≡ o → planned o (quiet later) ≡ walk 15 none → NewValueLater kinds
-    go none q e = absurd (ended_walk e)
-    go (some p) q e = record { zeros = p.0; sign = p.1; coming = q; many = far p.0 p.1 (ltb p.0 16) refl e }
+    go : (o : Option (ℕ × Bool)) → ahead kinds ≡ o → planned o (quiet later) ≡ walk 15 None → NewValueLater kinds
+    go None q e = absurd (ended_walk e)
+    go (Some p) q e = record { zeros = p.0; sign = p.1; coming = q; many = far p.0 p.1 (ltb p.0 16) refl e }

@@ -1,6 +1,5 @@
 -- R3 and R15: blocks one after another, where reading them stops, and what is left behind the last (for the numbers 12 to 18 of D1).
-use Rattle.std.specs.Prelude.{◌≡◌, Bool, false, List, [], ◌∷◌, ℕ, suc, ℤ, length}
-use Rattle.std.proofs.Math.Option.{Option}
+use Rattle.std.specs.Prelude.{◌≡◌, Bool, false, List, [], ◌∷◌, ℕ, suc, ℤ, length, Option}
 use Rattle.bit_rules.specs.Source.{Source, Out, got, stopped, stop, take_bit, only_padding}
 use Rattle.bit_rules.specs.Reader.{and_then, done}
 use Rattle.bit_rules.specs.Table.{Table}

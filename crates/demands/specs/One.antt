@@ -1,9 +1,7 @@
 -- D1: each call ends on every input and checks its own input; a refusal gives its number, place and second place, and the lent destination then holds only zeros.
-use Rattle.std.specs.Prelude.{◌≡◌, ◌⊎◌, Bool, true, false, cond, List, [], ◌∷◌, ◌++◌, ℕ, ◌+◌, ◌-◌, ◌*◌, ◌≤◌, ◌<◌, T, eqb, leb, ℤ, pos, length, get_or, drop, replicate}
-use Rattle.std.proofs.Math.Option.{none}
+use Rattle.std.specs.Prelude.{◌≡◌, ◌⊎◌, Bool, true, false, cond, List, [], ◌∷◌, ◌++◌, ℕ, ◌+◌, ◌-◌, ◌*◌, ◌≤◌, ◌<◌, T, eqb, leb, ℤ, pos, length, get_or, drop, replicate, None}
 use Rattle.box_rules.specs.Text.{listing, list_packets}
 use Rattle.laws.specs.Index.{every}
-use Rattle.laws.specs.declared.Found.TheVariants.{Nothing}
 use Rattle.answers.specs.Verdict.{refusal, Meets}
 use Rattle.answers.specs.declared.Answer.{Answer}
 use Rattle.levels.specs.Level.{inside}
@@ -160,8 +158,8 @@ ac_read_rows plane blocks codes values bytes room =
     then row 10 (failing (good_table codes))
     then row 11 (First (length values) (inside Ac (plane - 1) values))
     then row 9 (needed (63 * blocks) room)
-    then rows (12 ∷ 13 ∷ 14 ∷ 15 ∷ 16 ∷ 17 ∷ []) (StopsAt (one_ac codes) none (cut blocks values) (start bytes))
-    then row 18 (LeftOver (one_ac codes) none (cut blocks values) (start bytes))
+    then rows (12 ∷ 13 ∷ 14 ∷ 15 ∷ 16 ∷ 17 ∷ []) (StopsAt (one_ac codes) None (cut blocks values) (start bytes))
+    then row 18 (LeftOver (one_ac codes) None (cut blocks values) (start bytes))
 
 -- N6: a listing has its text whatever the file: a walk's refusal, and 20 for a file over 64 KiB, stand in the text
 unfoldable pub list_rows : List ℕ → ℕ → Rows
@@ -185,8 +183,8 @@ pub record FirstLacking (codes : Table) (ts : List Token) (v : ℕ) : Type 0 whe
   pub earlier : List Token
   pub later : List Token
   pub written : ts ≡ earlier ++ (code v ∷ later)
-  pub lacks : place_of v codes.values ≡ Nothing
-  pub held : lacking codes earlier ≡ Nothing
+  pub lacks : place_of v codes.values ≡ None
+  pub held : lacking codes earlier ≡ None
 
 -- N8: the same for an AC plane, which has a table
 unfoldable pub ac_write_rows : ℕ → ℕ → Table → List ℤ → ℕ → Rows

@@ -1,8 +1,7 @@
 -- D6, D7 and S10, practice must not reach live (A8): what a call answers for a type and instance is settled by the packets of that type and instance alone.
-use Rattle.std.specs.Prelude.{◌≡◌, List, [], ◌∷◌, map, ℕ, length, take, replicate}
+use Rattle.std.specs.Prelude.{◌≡◌, List, [], ◌∷◌, map, ℕ, length, take, replicate, Ok}
 use Rattle.answers.specs.Verdict.{given, refused, refusal, Meets}
 use Rattle.answers.specs.declared.Answer.{Answer}
-use Rattle.answers.specs.declared.Outcome.TheVariants.{Given}
 use Rattle.box_rules.specs.Walk.{walk, ending}
 use Rattle.box_rules.specs.Packets.{Packet, packets, mine}
 use Rattle.box_rules.specs.Box.{box_bytes}
@@ -14,7 +13,7 @@ use Rattle.demands.specs.Cases.{box, Result, naturals, Case, ◌gives◌, Hold, 
 
 -- D6: "two files whose walks both end well"; "Nothing is promised where one of the walks is refused"
 abbrev pub EndsWell : List ℕ → Type 0
-EndsWell file = ending (walk file) ≡ Given 0
+EndsWell file = ending (walk file) ≡ Ok 0
 
 -- D6: "their packets of one type and instance", in file order: what each head states, and each payload; where a packet stands is no part of it
 abbrev pub own : ℕ → ℕ → List ℕ → List Packet

@@ -2,10 +2,9 @@
 --
 -- After j of k planes a preview has the values of level j (D3), and is transformed at R = j. Times 2^(k-j), each of its samples is at most `owed` (V2) away from the full picture's at the same place.
 -- With quantisers 1 that is 8, 23, 53, 113 for one to four planes left, of 4096 where k is 4; there are blocks that owe just that much.
-use Rattle.std.specs.Prelude.{◌≡◌, true, List, [], ◌∷◌, ◌++◌, map, ℕ, suc, ◌+◌, ◌-◌, ◌*◌, ◌/◌, ◌^◌, ◌≤◌, ◌<◌, ℤ, pos, negsuc, ◌-ℤ◌, ◌*ℤ◌, length, get_or, replicate}
+use Rattle.std.specs.Prelude.{◌≡◌, true, List, [], ◌∷◌, ◌++◌, map, ℕ, suc, ◌+◌, ◌-◌, ◌*◌, ◌/◌, ◌^◌, ◌≤◌, ◌<◌, ℤ, pos, negsuc, ◌-ℤ◌, ◌*ℤ◌, length, get_or, replicate, None}
 use Rattle.laws.specs.Index.{tab, join_to}
 use Rattle.laws.specs.Apart.{apart, apart_rounded}
-use Rattle.laws.specs.declared.Found.TheVariants.{Nothing}
 use Rattle.answers.specs.Verdict.{given}
 use Rattle.transform_rules.specs.Picture.{picture}
 use Rattle.transform_rules.specs.Call.{first_bad_quantiser}
@@ -50,7 +49,7 @@ pub record Previewed (k j n : ℕ) (values : Both ℤ) (quantisers : List ℕ) (
 pub record Sound (k n : ℕ) (values : Both ℤ) (quantisers : List ℕ) : Type 0 where
   pub within : Within k n values
   pub long : length quantisers ≡ 64
-  pub quantised : first_bad_quantiser quantisers ≡ Nothing
+  pub quantised : first_bad_quantiser quantisers ≡ None
 
 -- D9: the law of the samples
 abbrev pub SamplesOwe : Type 0

@@ -1,6 +1,5 @@
 -- D4 and D5: what the demands rule out. Each statement here follows from a demand, and would not if the demand were weaker.
-use Rattle.std.specs.Prelude.{◌≡◌, List, [], ◌∷◌, ℕ, T, ℤ, pos, negsuc, length, replicate}
-use Rattle.std.proofs.Math.Option.{some}
+use Rattle.std.specs.Prelude.{◌≡◌, List, [], ◌∷◌, ℕ, T, ℤ, pos, negsuc, length, replicate, Some}
 use Rattle.answers.specs.Verdict.{Verdict, Meets}
 use Rattle.answers.specs.declared.Answer.{Answer}
 use Rattle.bit_rules.specs.Table.{Table}
@@ -89,7 +88,7 @@ five = record { dc = pos 5 ∷ []; ac = replicate 63 (pos 0) }
 -- D5: the full value is not there after the first of two planes
 abbrev pub FinalAtOnce : Type 0
 FinalAtOnce =
-    (lent : ℕ → Provided) (h : Refined 2 1 five lent) → climb (λ i values. read_plane i 1 (lent i) (h.plane i) values) 1 (level_of 2 five 0) ≡ some five → ⊥
+    (lent : ℕ → Provided) (h : Refined 2 1 five lent) → climb (λ i values. read_plane i 1 (lent i) (h.plane i) values) 1 (level_of 2 five 0) ≡ Some five → ⊥
 
 -- and "doubling without reading": without a bit DC 2 becomes 4
 abbrev pub four : Both ℤ
@@ -98,7 +97,7 @@ four = record { dc = pos 4 ∷ []; ac = replicate 63 (pos 0) }
 -- D5: after both planes the value is not 4
 abbrev pub DoubledUnread : Type 0
 DoubledUnread =
-    (lent : ℕ → Provided) (h : Refined 2 1 five lent) → climb (λ i values. read_plane i 1 (lent i) (h.plane i) values) 2 (level_of 2 five 0) ≡ some four → ⊥
+    (lent : ℕ → Provided) (h : Refined 2 1 five lent) → climb (λ i values. read_plane i 1 (lent i) (h.plane i) values) 2 (level_of 2 five 0) ≡ Some four → ⊥
 
 -- ---- "Cases marked P are proved as one statement over one list": none is missing
 

@@ -1,9 +1,7 @@
 -- D3: take any blocks within the ranges and any k from 0 to 4. Write them as a base and k planes, planes 1 to 3 with our writer and a fourth by the
 -- rules of 01, given room and code tables that hold every code needed. Each plane is accepted. After the first j planes each value is the full one
 -- divided by 2^(k-j), downward for DC and toward zero for AC; after all k it is the full value.
-use Rattle.std.specs.Prelude.{◌≡◌, true, cond, List, ℕ, ◌*◌, ◌≤◌, leb, ℤ, length}
-use Rattle.std.proofs.Math.Option.{Option, none, some}
-use Rattle.laws.specs.declared.Found.TheVariants.{Nothing}
+use Rattle.std.specs.Prelude.{◌≡◌, true, cond, List, ℕ, ◌*◌, ◌≤◌, leb, ℤ, length, Option, Some, None}
 use Rattle.answers.specs.Verdict.{Verdict, given, refused}
 use Rattle.levels.specs.Level.{first_outside}
 use Rattle.levels.specs.declared.Part.TheVariants.{Dc, Ac}
@@ -24,8 +22,8 @@ pub record Within (k n : ℕ) (values : Both ℤ) : Type 0 where
   pub few : n ≤ 1024
   pub dc_count : length values.dc ≡ n
   pub ac_count : length values.ac ≡ 63 * n
-  pub dc_range : first_outside Dc k values.dc ≡ Nothing
-  pub ac_range : first_outside Ac k values.ac ≡ Nothing
+  pub dc_range : first_outside Dc k values.dc ≡ None
+  pub ac_range : first_outside Ac k values.ac ≡ None
 
 -- D3: the full one divided by 2^(k-j), downward for DC and toward zero for AC; level 0 is the base
 unfoldable pub level_of : ℕ → Both ℤ → ℕ → Both ℤ
@@ -42,7 +40,7 @@ pub record Provided : Type 0 where
 -- D3: room, and code tables that hold every code needed
 pub record Enough (n : ℕ) (values : Both ℤ) (lent : Provided) : Type 0 where
   pub good : good_table lent.table ≡ true
-  pub codes : lacking lent.table (tokens n values.ac) ≡ Nothing
+  pub codes : lacking lent.table (tokens n values.ac) ≡ None
   pub dc_room : length (dc_bytes values.dc) ≤ lent.dc_room
   pub ac_room : length (ac_bytes n lent.table values.ac) ≤ lent.ac_room
   pub dc_space : n ≤ lent.dc_space
@@ -50,9 +48,9 @@ pub record Enough (n : ℕ) (values : Both ℤ) (lent : Provided) : Type 0 where
 
 -- L6: both calls accept, or the plane is not accepted
 abbrev pub together : {A : Type 0} → Verdict A → Verdict A → Option (Both A)
-together (given dc) (given ac) = some (record { dc = dc; ac = ac })
-together (given dc) (refused r) = none
-together (refused r) other = none
+together (given dc) (given ac) = Some (record { dc = dc; ac = ac })
+together (given dc) (refused r) = None
+together (refused r) other = None
 
 -- D3, E11: "for our writer with k up to 3", and "the fourth plane written by the rules of 01"
 abbrev pub writer_of : ℕ → Writer
@@ -73,9 +71,9 @@ pub record Refined (k n : ℕ) (full : Both ℤ) (lent : ℕ → Provided) : Typ
   -- the bytes of each plane
   pub plane : ℕ → Both ℕ
   -- each plane is accepted: plane j of the values of level j
-  pub written : (j : ℕ) → 1 ≤ j → j ≤ k → write_plane j n (lent j) (level_of k full j) ≡ some (plane j)
+  pub written : (j : ℕ) → 1 ≤ j → j ≤ k → write_plane j n (lent j) (level_of k full j) ≡ Some (plane j)
   -- after the first j planes each value is the full one divided by 2^(k-j)
-  pub after : (j : ℕ) → j ≤ k → climb (λ i values. read_plane i n (lent i) (plane i) values) j (level_of k full 0) ≡ some (level_of k full j)
+  pub after : (j : ℕ) → j ≤ k → climb (λ i values. read_plane i n (lent i) (plane i) values) j (level_of k full 0) ≡ Some (level_of k full j)
   -- after all k it is the full value
   pub whole : level_of k full k ≡ full
   -- and each level, the base too, lies in its ranges

@@ -1,12 +1,10 @@
 -- D2: box bytes, listings, refined coefficients, written planes, samples and merged results are those of the rules. A call hands out values exactly
 -- where the rules have some, and then it has written these.
-use Rattle.std.specs.Prelude.{◌≡◌, Bool, true, false, List, [], ◌∷◌, ◌++◌, ℕ, ◌+◌, ◌-◌, ◌*◌, ◌^◌, ◌≤◌, ◌<◌, leb, eqb, ℤ, pos, ◌+ℤ◌, ◌*ℤ◌, length, get_or, take}
-use Rattle.std.proofs.Math.Option.{none}
+use Rattle.std.specs.Prelude.{◌≡◌, Bool, true, false, List, [], ◌∷◌, ◌++◌, ℕ, ◌+◌, ◌-◌, ◌*◌, ◌^◌, ◌≤◌, ◌<◌, leb, eqb, ℤ, pos, ◌+ℤ◌, ◌*ℤ◌, length, get_or, take, None}
 use Rattle.std.specs.Int.Signed.{shr_z}
 use Rattle.box_rules.specs.Text.{listing, list_packets}
 use Rattle.laws.specs.Index.{sum_to, every}
 use Rattle.laws.specs.First.{first_fail}
-use Rattle.laws.specs.declared.Found.TheVariants.{Nothing}
 use Rattle.answers.specs.Verdict.{Meets}
 use Rattle.answers.specs.declared.Answer.{Answer}
 use Rattle.levels.specs.Level.{first_outside}
@@ -52,7 +50,7 @@ pub record Exactly {A : Type 0} (Right : List A → Type 0) (after : List A) (an
 pub record DcRefined (plane blocks : ℕ) (values : List ℤ) (bytes : List ℕ) (room : ℕ) (ys : List ℤ) : Type 0 where
   pub counts : every (readable plane blocks) ≡ true
   pub long : length values ≡ blocks
-  pub ranged : first_outside Dc (plane - 1) values ≡ Nothing
+  pub ranged : first_outside Dc (plane - 1) values ≡ None
   pub fits : blocks ≤ room
   pub left : Source
   pub refined : dc_blocks 0 values (start bytes) ≡ read ys left
@@ -63,10 +61,10 @@ pub record AcRefined (plane blocks : ℕ) (codes : Table) (values : List ℤ) (b
   pub counts : every (readable plane blocks) ≡ true
   pub long : length values ≡ 63 * blocks
   pub good : good_table codes ≡ true
-  pub ranged : first_outside Ac (plane - 1) values ≡ Nothing
+  pub ranged : first_outside Ac (plane - 1) values ≡ None
   pub fits : 63 * blocks ≤ room
   pub left : Source
-  pub refined : ac_blocks codes 0 none (cut blocks values) (start bytes) ≡ read ys left
+  pub refined : ac_blocks codes 0 None (cut blocks values) (start bytes) ≡ read ys left
   pub padded : only_padding left ≡ true
 
 -- D2: the listing's text, given room
@@ -83,7 +81,7 @@ pub record DcCoded (plane blocks : ℕ) (values : List ℤ) (room : ℕ) (ys : L
   pub counts : every (readable plane blocks) ≡ true
   pub level : still_written plane
   pub long : length values ≡ blocks
-  pub ranged : first_outside Dc plane values ≡ Nothing
+  pub ranged : first_outside Dc plane values ≡ None
   pub bytes : ys ≡ dc_bytes values
   pub fits : length ys ≤ room
 
@@ -93,8 +91,8 @@ pub record AcCoded (plane blocks : ℕ) (codes : Table) (values : List ℤ) (roo
   pub level : still_written plane
   pub long : length values ≡ 63 * blocks
   pub good : good_table codes ≡ true
-  pub ranged : first_outside Ac plane values ≡ Nothing
-  pub held : lacking codes (tokens blocks values) ≡ Nothing
+  pub ranged : first_outside Ac plane values ≡ None
+  pub held : lacking codes (tokens blocks values) ≡ None
   pub bytes : ys ≡ ac_bytes blocks codes values
   pub fits : length ys ≤ room
 
@@ -104,8 +102,8 @@ pub record AcCoded (plane blocks : ℕ) (codes : Table) (values : List ℤ) (roo
 pub record Sampled (refinement blocks : ℕ) (values : List ℤ) (quantisers : List ℕ) (room : ℕ) (ys : List ℤ) : Type 0 where
   pub counts : every (leb refinement 4 ∷ leb blocks 1024 ∷ []) ≡ true
   pub lengths : every (eqb (length values) (blocks * 64) ∷ eqb (length quantisers) 64 ∷ []) ≡ true
-  pub quantised : first_bad_quantiser quantisers ≡ Nothing
-  pub ranged : first_outside Whole refinement values ≡ Nothing
+  pub quantised : first_bad_quantiser quantisers ≡ None
+  pub ranged : first_outside Whole refinement values ≡ None
   pub samples : ys ≡ blockwise.picture refinement blocks values quantisers
   pub fits : length ys ≤ room
 
@@ -113,7 +111,7 @@ pub record Sampled (refinement blocks : ℕ) (values : List ℤ) (quantisers : L
 pub record Owing (left : ℕ) (quantisers : List ℕ) (room : ℕ) (ys : List ℕ) : Type 0 where
   pub counts : leb left 4 ≡ true
   pub long : length quantisers ≡ 64
-  pub quantised : first_bad_quantiser quantisers ≡ Nothing
+  pub quantised : first_bad_quantiser quantisers ≡ None
   pub numbers : ys ≡ owed_block left quantisers
   pub fits : length ys ≤ room
 
@@ -125,7 +123,7 @@ pub record Merged (s : Setting) (pixels : ℕ) (base residual : List ℤ) (table
   pub one : plain s ≡ true
   pub srgb : srgb_allowed s ≡ true
   pub lengths : lengths_right s pixels base residual table ≡ true
-  pub entries : first_fail (length table) (entry_right (top s.rb) table) ≡ Nothing
+  pub entries : first_fail (length table) (entry_right (top s.rb) table) ≡ None
   pub results : ys ≡ merged_picture s pixels base residual table
   pub fits : length ys ≤ room
 

@@ -1,7 +1,5 @@
 -- What `box_out` replies: how it is used, a refusal, or the bytes of the box.
-use Rattle.std.specs.Prelude.{◌≡◌, Bool, true, false, cond, List, ℕ, ltb, eqb, length}
-use Rattle.laws.specs.declared.Found.{Found}
-use Rattle.laws.specs.declared.Found.TheVariants.{At, Nothing}
+use Rattle.std.specs.Prelude.{◌≡◌, Bool, true, false, cond, List, ℕ, ltb, eqb, length, Option, Some, None}
 use Rattle.answers.specs.Verdict.{Meets}
 use Rattle.answers.specs.declared.Answer.{Answer}
 use Rattle.box_rules.specs.Box.{box_bytes}
@@ -47,7 +45,7 @@ AskedIf true kind instance file most before after r = Untouched Usage before aft
 AskedIf false kind instance file most before after r = Served file most kind instance before after r
 
 -- P21: a word that is missing or asks for nothing, or the box
-unfoldable pub Replies : Found → Found → List ℕ → ℕ → List ℕ → List ℕ → Reply → Type 0
-Replies Nothing instance file most before after r = Untouched Usage before after r
-Replies (At k) Nothing file most before after r = Untouched Usage before after r
-Replies (At k) (At i) file most before after r = AskedIf (cond (ltb 4294967295 k) true (ltb 65535 i)) k i file most before after r
+unfoldable pub Replies : Option ℕ → Option ℕ → List ℕ → ℕ → List ℕ → List ℕ → Reply → Type 0
+Replies None instance file most before after r = Untouched Usage before after r
+Replies (Some k) None file most before after r = Untouched Usage before after r
+Replies (Some k) (Some i) file most before after r = AskedIf (cond (ltb 4294967295 k) true (ltb 65535 i)) k i file most before after r

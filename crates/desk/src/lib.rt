@@ -6,7 +6,6 @@ ghost use Rattle.asking.specs.Words.{type_of, instance_of};
 ghost use Rattle.desk.specs.Desk.{reply_to, served, Served, Replies};
 
 use answers::Answer;
-use laws::Found;
 
 // How it is used; or a refusal; or so many bytes of the box.
 #[derive(Clone, Copy)]
@@ -55,10 +54,10 @@ pub fn asked(
     let kind = asking::type_of(type_word);
     let instance = asking::instance_of(instance_word);
     match kind {
-        Found::Nothing => Reply::Usage,
-        Found::At(k) => match instance {
-            Found::Nothing => Reply::Usage,
-            Found::At(i) => {
+        None => Reply::Usage,
+        Some(k) => match instance {
+            None => Reply::Usage,
+            Some(i) => {
                 if 4294967295 < k {
                     return Reply::Usage;
                 }

@@ -6,11 +6,9 @@ use mathlib.Core.Bool.{true, false}
 use native.Mathlib.Omega.{arith}
 use lib.ListN.{length}
 use borrow.Author.Tests.{eq-eqb, ne_eqb, le-leb, lt-leb}
-use Rattle.laws.specs.declared.Found.{Found}
-use Rattle.laws.specs.declared.Found.TheVariants.{At, Nothing}
+use Rattle.std.specs.Prelude.{Option, Some, None, Ok, Err}
 use Rattle.answers.specs.Verdict.{given, refused, refusal}
 use Rattle.answers.specs.declared.Refusal.{Refusal}
-use Rattle.answers.specs.declared.Outcome.TheVariants.{Given, Refused}
 use Rattle.box_rules.specs.declared.Head.{Head}
 use Rattle.box_rules.specs.Walk.{walk, ending}
 use Rattle.box_rules.specs.Packets.{Packet}
@@ -41,20 +39,20 @@ module _ (file : List ℕ) (kind instance : ℕ) where
   twice_of = refl
 
   -- none of 1 to n is missing, so none stands twice
-  pub searched_fine : {n : ℕ} {m : Found} → n ≡ length (mine_of file kind instance) → m ≡ missing_from n 1 (numbers_from file kind instance 2) → m ≡ Nothing
+  pub searched_fine : {n : ℕ} {m : (Option ℕ)} → n ≡ length (mine_of file kind instance) → m ≡ missing_from n 1 (numbers_from file kind instance 2) → m ≡ None
       → Fine ≡ fault_of (numbers (mine_of file kind instance))
   searched_fine {n} e f g =
-      let z : first_missing (numbers (mine_of file kind instance)) ≡ Nothing = sym (missing_of n e) ∙ sym f ∙ g in
+      let z : first_missing (numbers (mine_of file kind instance)) ≡ None = sym (missing_of n e) ∙ sym f ∙ g in
       sym (fault_fine _ (pigeonhole (numbers (mine_of file kind instance)) z) z)
 
-  pub searched_twice : {t : Found} {q : ℕ} → t ≡ first_twice (numbers_from file kind instance 2) → t ≡ At q → Twice q ≡ fault_of (numbers (mine_of file kind instance))
+  pub searched_twice : {t : (Option ℕ)} {q : ℕ} → t ≡ first_twice (numbers_from file kind instance 2) → t ≡ Some q → Twice q ≡ fault_of (numbers (mine_of file kind instance))
   searched_twice f g = sym (fault_twice _ (sym twice_of ∙ sym f ∙ g))
 
-  pub searched_missing : {n : ℕ} {m : Found} {q : ℕ} → n ≡ length (mine_of file kind instance) → m ≡ missing_from n 1 (numbers_from file kind instance 2) → m ≡ At q
-      → first_twice (numbers (mine_of file kind instance)) ≡ Nothing → Missing q ≡ fault_of (numbers (mine_of file kind instance))
+  pub searched_missing : {n : ℕ} {m : (Option ℕ)} {q : ℕ} → n ≡ length (mine_of file kind instance) → m ≡ missing_from n 1 (numbers_from file kind instance 2) → m ≡ Some q
+      → first_twice (numbers (mine_of file kind instance)) ≡ None → Missing q ≡ fault_of (numbers (mine_of file kind instance))
   searched_missing {n} e f g t = sym (fault_missing _ t (sym (missing_of n e) ∙ sym f ∙ g))
 
-  pub searched_once : {t : Found} → t ≡ first_twice (numbers_from file kind instance 2) → t ≡ Nothing → first_twice (numbers (mine_of file kind instance)) ≡ Nothing
+  pub searched_once : {t : (Option ℕ)} → t ≡ first_twice (numbers_from file kind instance 2) → t ≡ None → first_twice (numbers (mine_of file kind instance)) ≡ None
   searched_once h i = sym twice_of ∙ sym h ∙ i
 
 -- ---- the verdict for a list of packets
@@ -95,19 +93,19 @@ module _ (room : ℕ) (h : Head) (ps : List Packet) where
 -- ---- the verdict for a file
 
 module _ (file : List ℕ) (kind instance room : ℕ) where
-  pub file_refused : {r : Refusal} → ending (walk file) ≡ Refused r → box_bytes file kind instance room ≡ refused r
+  pub file_refused : {r : Refusal} → ending (walk file) ≡ Err r → box_bytes file kind instance room ≡ refused r
   unfolding box_bytes
   file_refused e = rw e
 
-  file_packets : {count : ℕ} → ending (walk file) ≡ Given count → box_bytes file kind instance room ≡ assemble room (mine_of file kind instance)
+  file_packets : {count : ℕ} → ending (walk file) ≡ Ok count → box_bytes file kind instance room ≡ assemble room (mine_of file kind instance)
   unfolding box_bytes
   file_packets e = rw e (ap (assemble room) (mine_all file kind instance _ e))
 
-  pub file_none : {count : ℕ} → ending (walk file) ≡ Given count → mine_of file kind instance ≡ [] → box_bytes file kind instance room ≡ refused (refusal 4 0)
+  pub file_none : {count : ℕ} → ending (walk file) ≡ Ok count → mine_of file kind instance ≡ [] → box_bytes file kind instance room ≡ refused (refusal 4 0)
   unfolding assemble
   file_none e n = file_packets e ∙ rw n
 
-  pub file_some : {count : ℕ} → ending (walk file) ≡ Given count → {head : Head} {start len next : ℕ} → Met file kind instance 2 head start len next
+  pub file_some : {count : ℕ} → ending (walk file) ≡ Ok count → {head : Head} {start len next : ℕ} → Met file kind instance 2 head start len next
       → box_bytes file kind instance room ≡ assembled room head (mine_of file kind instance)
   unfolding assemble
   file_some e m = file_packets e ∙ rw m.list

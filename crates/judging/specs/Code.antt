@@ -1,5 +1,5 @@
 -- What a verdict on a box is, in the code's words.
-use Rattle.std.specs.Prelude.{ℕ, ◌≤◌, ◌≡◌, List, Bool, length}
+use Rattle.std.specs.Prelude.{ℕ, ◌≤◌, ◌≡◌, List, Bool, length, Result, Ok, Err}
 use Rattle.answers.specs.Verdict.{Verdict, given, refused}
 use Rattle.box_rules.specs.Packets.{Packet}
 use Rattle.box_rules.specs.Numbers.{numbers}
@@ -7,7 +7,7 @@ use Rattle.box_rules.specs.Box.{joined}
 use Rattle.scans.specs.declared.Fault.TheVariants.{Fine}
 use Rattle.scans.specs.Code.{in_order, fault_of}
 use Rattle.judging.specs.declared.Ready.{Ready}
-use Rattle.judging.specs.declared.Ready.TheVariants.{Not, Yes}
+use Rattle.answers.specs.declared.Refusal.{Refusal}
 
 -- the bytes can be handed out: how many packets, how many bytes, and whether they stand in order
 pub record Whole (ps : List Packet) (room : ℕ) (v : Verdict ℕ) (n sum : ℕ) (ordered : Bool) : Type 0 where
@@ -19,6 +19,6 @@ pub record Whole (ps : List Packet) (room : ℕ) (v : Verdict ℕ) (n sum : ℕ)
   pub once : fault_of (numbers ps) ≡ Fine
 
 -- what a verdict is, in the code's words
-abbrev pub ReadyIs : List Packet → ℕ → Verdict ℕ → Ready → Type 0
-ReadyIs ps room v (Not r) = v ≡ refused r
-ReadyIs ps room v (Yes n sum ordered) = Whole ps room v n sum ordered
+abbrev pub ReadyIs : List Packet → ℕ → Verdict ℕ → Result Ready Refusal → Type 0
+ReadyIs ps room v (Err r) = v ≡ refused r
+ReadyIs ps room v (Ok b) = Whole ps room v b.n b.total b.ordered

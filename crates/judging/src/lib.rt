@@ -9,21 +9,17 @@ ghost use Rattle.box_rules.specs.Box.{contents as Box·contents};
 ghost use Rattle.scans.specs.Code.{mine_of, Scanned, fault_of};
 ghost use Rattle.judging.specs.Code.{ReadyIs};
 
-use answers::{Outcome, Refusal};
+use answers::Refusal;
 use box_rules::Head;
-use laws::Found;
-use packets::Next;
+use packets::Mine;
 use scans::{Fault, Scan};
 
-// Whether the bytes of a box can be handed out.
+// A box whose bytes can be handed out: how many packets, how many bytes, and whether the packets stand in order.
 #[derive(Clone, Copy)]
-pub enum Ready {
-    Not(Refusal),
-    Yes {
-        n: usize,
-        total: usize,
-        ordered: bool,
-    },
+pub struct Ready {
+    pub n: usize,
+    pub total: usize,
+    pub ordered: bool,
 }
 
 // What is wrong with the sequence numbers of the packets. Packets that stand in order need no search, where none of 1 to n is
@@ -36,14 +32,14 @@ fn fault_of(file: &[u8], kind: u32, instance: u16, h: Head, c: Scan) -> Fault
         return Fault::Fine;
     }
     match windows::first_missing(file, kind, instance, c.n) {
-        Found::Nothing => Fault::Fine,
-        Found::At(m) => {
+        None => Fault::Fine,
+        Some(m) => {
             if c.rising {
                 return Fault::Missing(m);
             }
             match numbers::first_twice(file, kind, instance) {
-                Found::At(q) => Fault::Twice(q),
-                Found::Nothing => Fault::Missing(m),
+                Some(q) => Fault::Twice(q),
+                None => Fault::Missing(m),
             }
         }
     }
@@ -60,10 +56,10 @@ fn contents(h: Head) -> u64
     }
 }
 
-fn not(number: u32, place: usize) -> Ready
-    ensures { result ≡ Ready.Not (refusal number place) }
+fn not(number: u32, place: usize) -> Result<Ready, Refusal>
+    ensures { result ≡ Err (refusal number place) }
 {
-    Ready::Not(Refusal {
+    Err(Refusal {
         number,
         place,
         second: 0,
@@ -71,7 +67,14 @@ fn not(number: u32, place: usize) -> Ready
 }
 
 // Whether the packets of a type and instance, of which the first has the head h, make a box that fits into so many bytes.
-fn checked(file: &[u8], kind: u32, instance: u16, h: Head, c: Scan, room: usize) -> Ready
+fn checked(
+    file: &[u8],
+    kind: u32,
+    instance: u16,
+    h: Head,
+    c: Scan,
+    room: usize,
+) -> Result<Ready, Refusal>
     requires { Scanned (mine_of file.now kind instance) h c }
     ensures { ReadyIs (mine_of file.now kind instance) room (assembled room h (mine_of file.now kind instance)) result }
 {
@@ -91,30 +94,32 @@ fn checked(file: &[u8], kind: u32, instance: u16, h: Head, c: Scan, room: usize)
             if room < total {
                 return not(9, total);
             }
-            Ready::Yes { n, total, ordered }
+            Ok(Ready { n, total, ordered })
         }
     }
 }
 
 // Whether a file has the box of a type and instance, and it fits into so many bytes.
-pub fn judged(file: &[u8], kind: u32, instance: u16, room: usize) -> Ready
+pub fn judged(file: &[u8], kind: u32, instance: u16, room: usize) -> Result<Ready, Refusal>
     ensures { ReadyIs (mine_of file.now kind instance) room (box_bytes file.now kind instance room) result }
 {
     match packets::next_mine(file, kind, instance, 2) {
-        Next::Gone => match packets::walk_all(file) {
-            Outcome::Refused(r) => Ready::Not(r),
-            Outcome::Given(_) => not(4, 0),
+        None => match packets::walk_all(file) {
+            Err(r) => Err(r),
+            Ok(_) => not(4, 0),
         },
-        Next::Mine {
-            head,
-            start: _,
-            len: _,
-            next: _,
-        } => {
+        Some(
+            Mine {
+                head,
+                start: _,
+                len: _,
+                next: _,
+            },
+        ) => {
             let c = scans::scan_all(file, kind, instance, head);
             match packets::walk_on(file, c.end) {
-                Outcome::Refused(r) => Ready::Not(r),
-                Outcome::Given(_) => checked(file, kind, instance, head, c, room),
+                Err(r) => Err(r),
+                Ok(_) => checked(file, kind, instance, head, c, room),
             }
         }
     }

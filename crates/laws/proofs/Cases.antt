@@ -8,10 +8,10 @@ use lib.IntN.{pos, negsuc}
 use Rattle.laws.specs.Index.{sum_to, total_to, tab, join_to, every}
 use Rattle.laws.specs.Apart.{apart, apart_rounded}
 use Rattle.laws.specs.First.{first_fail, or_here}
-use Rattle.laws.specs.declared.Found.TheVariants.{At, Nothing}
+use Rattle.std.specs.Prelude.{Some, None}
 
 -- the first of several that fail; none; a failing index that is not below n
-pub first_of : (first_fail 5 (λ (i : ℕ). ltb i 2) ≡ At 2) × (first_fail 5 (λ (i : ℕ). true) ≡ Nothing) × (first_fail 2 (λ (i : ℕ). ltb i 2) ≡ Nothing) × (first_fail 3 (λ (i : ℕ). ltb i 2) ≡ At 2)
+pub first_of : (first_fail 5 (λ (i : ℕ). ltb i 2) ≡ Some 2) × (first_fail 5 (λ (i : ℕ). true) ≡ None) × (first_fail 2 (λ (i : ℕ). ltb i 2) ≡ None) × (first_fail 3 (λ (i : ℕ). ltb i 2) ≡ Some 2)
 unfolding first_fail or_here
 first_of = (refl, refl, refl, refl)
 

@@ -5,7 +5,7 @@ use mathlib.Core.List.{[], ◌∷◌, ◌++◌, map}
 use lib.IntN.{pos, negsuc}
 use lib.ListN.{replicate}
 use Rattle.laws.specs.First.{first_fail, or_here}
-use Rattle.laws.specs.declared.Found.TheVariants.{At, Nothing}
+use Rattle.std.specs.Prelude.{Some, None}
 use Rattle.levels.specs.Level.{in_level, is_dc, inside, first_outside, between}
 use Rattle.levels.specs.declared.Part.TheVariants.{Dc, Ac, Whole}
 
@@ -27,10 +27,10 @@ unfolding is_dc
 dc_places = refl
 
 -- "first index": -2048 is in the range of DC and not of AC
-pub first_places : (first_outside Dc 0 (pos 0 ∷ negsuc 2047 ∷ pos 5000 ∷ negsuc 5000 ∷ []) ≡ At 2)
-    × (first_outside Ac 0 (pos 0 ∷ negsuc 2047 ∷ pos 5000 ∷ []) ≡ At 1)
-    × (first_outside Whole 0 (negsuc 2047 ∷ replicate 63 (pos 0) ++ (negsuc 2047 ∷ negsuc 2047 ∷ [])) ≡ At 65)
-    × (first_outside Ac 1 (pos 4095 ∷ []) ≡ Nothing)
+pub first_places : (first_outside Dc 0 (pos 0 ∷ negsuc 2047 ∷ pos 5000 ∷ negsuc 5000 ∷ []) ≡ Some 2)
+    × (first_outside Ac 0 (pos 0 ∷ negsuc 2047 ∷ pos 5000 ∷ []) ≡ Some 1)
+    × (first_outside Whole 0 (negsuc 2047 ∷ replicate 63 (pos 0) ++ (negsuc 2047 ∷ negsuc 2047 ∷ [])) ≡ Some 65)
+    × (first_outside Ac 1 (pos 4095 ∷ []) ≡ None)
 unfolding in_level is_dc inside first_outside first_fail or_here
 first_places = (refl, refl, refl, refl)
 

@@ -7,7 +7,7 @@ use native.Mathlib.Nat.{le_of_suc-le-suc, not-suc-le-zero}
 use lib.IntN.{ℤ, pos}
 use lib.ListN.{length, get_or, length-map}
 use Rattle.laws.proofs.First.{first_none, all_pass}
-use Rattle.laws.specs.declared.Found.TheVariants.{Nothing}
+use Rattle.std.specs.Prelude.{None}
 use Rattle.levels.specs.Level.{in_level, inside, first_outside, is_dc}
 use Rattle.levels.specs.declared.Part.{Part}
 
@@ -17,7 +17,7 @@ get_or_mapped f (x ∷ values) zero h = refl
 get_or_mapped f (x ∷ values) (suc i) h = get_or_mapped f values i (le_of_suc-le-suc h)
 
 module _ (part : Part) (from to : ℕ) (f : ℤ → ℤ) (into : (i : ℕ) (x : ℤ) → in_level (is_dc part i) from x ≡ true → in_level (is_dc part i) to (f x) ≡ true) where
-  pub mapped_inside : (values : List ℤ) → first_outside part from values ≡ Nothing → first_outside part to (map f values) ≡ Nothing
+  pub mapped_inside : (values : List ℤ) → first_outside part from values ≡ None → first_outside part to (map f values) ≡ None
   unfolding first_outside inside
   mapped_inside values e =
       rw (length-map values f)

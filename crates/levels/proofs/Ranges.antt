@@ -15,7 +15,7 @@ use Rattle.laws.proofs.Integers.{split}
 use Rattle.laws.proofs.Lists.{each}
 use Rattle.laws.proofs.First.{first_none, first_more, all_pass}
 use Rattle.laws.specs.First.{first_fail}
-use Rattle.laws.specs.declared.Found.TheVariants.{Nothing}
+use Rattle.std.specs.Prelude.{None}
 use Rattle.levels.specs.Level.{dc_in, in_level, inside, first_outside, is_dc, between}
 use Rattle.levels.specs.declared.Part.{Part}
 
@@ -70,9 +70,9 @@ and_right false b e = absurd (subst T (sym e) tt)
 
 -- a turn of the loop: the flag still says what it said, and of one value more
 pub between_turn : (low high : ℤ) (values : List ℤ) (i : ℕ) (good : Bool)
-    → (good ≡ true → first_fail i (between low high values) ≡ Nothing)
+    → (good ≡ true → first_fail i (between low high values) ≡ None)
     → (good && lt_z low (get_or values i (pos 0)) && lt_z (get_or values i (pos 0)) high) ≡ true
-    → first_fail (i + 1) (between low high values) ≡ Nothing
+    → first_fail (i + 1) (between low high values) ≡ None
 unfolding between
 between_turn low high values i good before e =
     let l = lt_z low (get_or values i (pos 0)) in
@@ -98,8 +98,8 @@ module _ (level : ℕ) (v : ℤ) (above : lt_z (neg_ℤ (pos (2 ^ (11 + level)))
 
 -- what the test of all values says of every part
 pub between_inside : (part : Part) (level : ℕ) (values : List ℤ)
-    → first_fail (length values) (between (neg_ℤ (pos (2 ^ (11 + level)))) (pos (2 ^ (11 + level))) values) ≡ Nothing
-    → first_outside part level values ≡ Nothing
+    → first_fail (length values) (between (neg_ℤ (pos (2 ^ (11 + level)))) (pos (2 ^ (11 + level))) values) ≡ None
+    → first_outside part level values ≡ None
 unfolding first_outside inside between
 between_inside part level values e =
     all_pass (length values) (inside part level values)
@@ -122,7 +122,7 @@ in_small level true (pos n) h e = omega (arith, ltb-true n (2 ^ (11 + level)) e)
 in_small level true (negsuc n) h e = omega (arith, ltb-true n (2 ^ (11 + level)) e)
 in_small level false v h e = omega (arith, ltb-true (nat_abs v) (2 ^ (11 + level)) e)
 
-module _ (part : Part) (level : ℕ) (values : List ℤ) (h : level ≤ 4) (none : first_outside part level values ≡ Nothing) where
+module _ (part : Part) (level : ℕ) (values : List ℤ) (h : level ≤ 4) (none : first_outside part level values ≡ None) where
   -- at each index the value is in its range
   pub all_inside : (k : ℕ) → k < length values → in_level (is_dc part k) level (get_or values k (pos 0)) ≡ true
   unfolding first_outside inside

@@ -1,8 +1,7 @@
 -- L1 to L5: the range of a value at a level.
-use Rattle.std.specs.Prelude.{Bool, true, false, ◌&&◌, List, ℕ, ◌+◌, ◌^◌, ◌%◌, eqb, ltb, ℤ, pos, negsuc, nat_abs, length, get_or}
+use Rattle.std.specs.Prelude.{Bool, true, false, ◌&&◌, List, ℕ, ◌+◌, ◌^◌, ◌%◌, eqb, ltb, ℤ, pos, negsuc, nat_abs, length, get_or, Option}
 use Rattle.std.specs.Int.Signed.{lt_z}
 use Rattle.laws.specs.First.{first_fail}
-use Rattle.laws.specs.declared.Found.{Found}
 use Rattle.levels.specs.declared.Part.{Part}
 use Rattle.levels.specs.declared.Part.TheVariants.{Dc, Ac, Whole}
 
@@ -31,7 +30,7 @@ unfoldable pub inside : Part → ℕ → List ℤ → ℕ → Bool
 inside part level values index = in_level (is_dc part index) level (get_or values index (pos 0))
 
 -- N11, L5: 11, "value out of range", "first index"
-unfoldable pub first_outside : Part → ℕ → List ℤ → Found
+unfoldable pub first_outside : Part → ℕ → List ℤ → Option ℕ
 first_outside part level values = first_fail (length values) (inside part level values)
 
 -- the value at an index lies between two bounds; where those are the AC range's, the value is in every range

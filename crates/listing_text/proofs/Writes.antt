@@ -11,7 +11,7 @@ use lib.Seq.{set_out, sets, sets-eq}
 use borrow.Author.Tests.{lt-ltb, le-ltb, le-leb, lt-leb}
 use Rattle.answers.specs.Verdict.{given, refused, refusal}
 use Rattle.answers.specs.declared.Refusal.{Refusal}
-use Rattle.answers.specs.declared.Outcome.TheVariants.{Given, Refused}
+use Rattle.std.specs.Prelude.{Ok, Err}
 use Rattle.box_rules.specs.declared.Head.{Head}
 use Rattle.box_rules.specs.declared.Step.TheVariants.{End, Skip, Meet, Broken}
 use Rattle.box_rules.specs.Walk.{step_at, steps_from, walk, ending}
@@ -157,11 +157,11 @@ module _ (file : List ℕ) where
   unfolding listing
   listing_long h = rw (lt-ltb 65536 (length file) h)
 
-  pub listing_refused : {r : Refusal} → length file ≤ 65536 → ending (walk file) ≡ Refused r → listing file ≡ header ++ answer r.number r.place
+  pub listing_refused : {r : Refusal} → length file ≤ 65536 → ending (walk file) ≡ Err r → listing file ≡ header ++ answer r.number r.place
   unfolding listing
   listing_refused h e = rw (le-ltb 65536 (length file) h, e)
 
-  pub listing_good : {count : ℕ} → length file ≤ 65536 → ending (walk file) ≡ Given count → listing file ≡ header ++ (lines (packets_in file (steps_from file 2)) ++ answer 0 0)
+  pub listing_good : {count : ℕ} → length file ≤ 65536 → ending (walk file) ≡ Ok count → listing file ≡ header ++ (lines (packets_in file (steps_from file 2)) ++ answer 0 0)
   unfolding listing
   listing_good {count} h e =
       rw (le-ltb 65536 (length file) h, e)

@@ -9,7 +9,7 @@ ghost use Rattle.box_rules.specs.Text.{list_packets, dec, hex, lines};
 ghost use Rattle.listing_text.specs.Code.{Wrote};
 ghost use Rattle.box_rules.specs.Text.{glyph as Text·glyph, line as Text·line, answer as Text·answer, listing as Text·listing};
 
-use answers::{Answer, Outcome};
+use answers::{Answer, Refusal};
 use box_rules::Step;
 
 // Stores a byte where there is room, and answers the next position.
@@ -150,22 +150,22 @@ fn put_listing(out: &mut [u8], file: &[u8]) -> usize
         return put_answer(out, h, 20, 0);
     }
     match packets::walk_all(file) {
-        Outcome::Refused(r) => put_answer(out, h, r.number, r.place),
-        Outcome::Given(_) => {
+        Err(r) => put_answer(out, h, r.number, r.place),
+        Ok(_) => {
             let e = put_lines(out, h, file);
             put_answer(out, e, 0, 0)
         }
     }
 }
 
-fn try_list(file: &[u8], text: &mut [u8]) -> Outcome
+fn try_list(file: &[u8], text: &mut [u8]) -> Result<usize, Refusal>
     ensures { Tried 0 (list_packets file.now (length text.old)) text.old text.new result }
 {
     let end = put_listing(text, file);
     if text.len() < end {
         return answers::refuse(9, end);
     }
-    Outcome::Given(end)
+    Ok(end)
 }
 
 // The listing of a file's packets.
@@ -174,9 +174,9 @@ pub fn list_packets(file: &[u8], text: &mut [u8]) -> Answer
 {
     let o = try_list(file, text);
     match o {
-        Outcome::Given(_) => answers::answer_of(o),
-        Outcome::Refused(_) => {
-            answers::clear_u8(text);
+        Ok(_) => answers::answer_of(o),
+        Err(_) => {
+            answers::clear(text, 0);
             answers::answer_of(o)
         }
     }

@@ -14,7 +14,7 @@ fn tested(
     residual: &[i32],
     table: &[u16],
     room: usize,
-) -> answers::Outcome
+) -> Result<usize, answers::Refusal>
     ensures { Tested s pixels base.now residual.now table.now room result }
 {
     if !settings::in_ranges(s, pixels) {
@@ -30,14 +30,14 @@ fn tested(
         return answers::refuse(21, 0);
     }
     let large = settings::first_large(table, rounding::top_of(s.rb));
-    if let laws::Found::At(i) = large {
+    if let Some(i) = large {
         return answers::refuse(11, i);
     }
     let count = (s.components as usize) * pixels;
     if room < count {
         return answers::refuse(9, count);
     }
-    answers::Outcome::Given(count)
+    Ok(count)
 }
 
 // The tests, then the picture. A refusal may leave anything in the destination.
@@ -48,12 +48,12 @@ fn try_merge(
     residual: &[i32],
     table: &[u16],
     destination: &mut [u16],
-) -> answers::Outcome
+) -> Result<usize, answers::Refusal>
     ensures { Tried 0 (merge s pixels base.now residual.now table.now (length destination.old))
         destination.old destination.new result }
 {
     let o = tested(s, pixels, base, residual, table, destination.len());
-    if let answers::Outcome::Refused(_) = o {
+    if let Err(_) = o {
         return o;
     }
     fills::fill(s, pixels, base, residual, table, destination);
@@ -74,9 +74,9 @@ pub fn merge(
 {
     let tried = try_merge(s, pixels, base, residual, table, destination);
     match tried {
-        answers::Outcome::Given(_) => answers::answer_of(tried),
-        answers::Outcome::Refused(_) => {
-            answers::clear_u16(destination);
+        Ok(_) => answers::answer_of(tried),
+        Err(_) => {
+            answers::clear(destination, 0);
             answers::answer_of(tried)
         }
     }

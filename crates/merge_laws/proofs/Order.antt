@@ -7,7 +7,7 @@ use Prim.Native.Nat.{ℕ, ◌<◌, ◌≤◌}
 use lib.IntN.{ℤ}
 use lib.ListN.{length}
 use Rattle.laws.specs.First.{first_fail}
-use Rattle.laws.specs.declared.Found.TheVariants.{At, Nothing}
+use Rattle.std.specs.Prelude.{Some, None}
 use Rattle.laws.proofs.Lists.{length_tab, join_length}
 use Rattle.answers.specs.Verdict.{given, refused, refusal}
 use Rattle.merge_rules.specs.Near.{top}
@@ -41,11 +41,11 @@ module _ (s : Setting) (n : ℕ) (base residual : List ℤ) (table : List ℕ) w
           no_lengths e = rw (h₁, h₂, h₃, e)
 
           module _ (h₄ : lengths_right s n base residual table ≡ true) where
-            pub too_large : (i : ℕ) → first_fail (length table) (entry_right (top s.rb) table) ≡ At i → merge_tests s n base residual table room result ≡ refused (refusal 11 i)
+            pub too_large : (i : ℕ) → first_fail (length table) (entry_right (top s.rb) table) ≡ Some i → merge_tests s n base residual table room result ≡ refused (refusal 11 i)
             unfolding merge_tests
             too_large i e = rw (h₁, h₂, h₃, h₄, e)
 
-            module _ (h₅ : first_fail (length table) (entry_right (top s.rb) table) ≡ Nothing) (long : length result ≡ samples s n) where
+            module _ (h₅ : first_fail (length table) (entry_right (top s.rb) table) ≡ None) (long : length result ≡ samples s n) where
               pub no_room : room < samples s n → merge_tests s n base residual table room result ≡ refused (refusal 9 (samples s n))
               unfolding merge_tests
               no_room h = rw (h₁, h₂, h₃, h₄, h₅, long, lt-leb (samples s n) room h)

@@ -10,8 +10,7 @@ use lib.ListN.{length, take, drop, set, get_or, length-set}
 use lib.Seq.{take-suc-set, drop-cons}
 use lib.Dec.{eqb, ltb}
 use borrow.Author.Tests.{eqb-true, eqb-false, ltb-true, ltb-false}
-use Rattle.laws.specs.declared.Found.{Found}
-use Rattle.laws.specs.declared.Found.TheVariants.{At, Nothing}
+use Rattle.std.specs.Prelude.{Option, Some, None}
 use Rattle.laws.proofs.Choices.{either}
 use Rattle.box_rules.specs.Numbers.{count, first_twice, within, between}
 use Rattle.numbers.specs.Code.{chosen, TwiceIn}
@@ -153,9 +152,9 @@ apart_chosen lo hi q (x ∷ r) w = go (within lo hi x) refl (eqb x q) refl (apar
     go false s d t ih = ih
 
 -- the numbers of a window, searched in hand
-pub window_twice : (lo hi : ℕ) (ns : List ℕ) (f : Found) → f ≡ first_twice (chosen lo hi ns) → TwiceIn lo hi ns f
-window_twice lo hi ns Nothing e = λ j u v. omega (arith, never_twice (chosen lo hi ns) (sym e) j, count_chosen lo hi j ns (within_true lo hi j u v))
-window_twice lo hi ns (At q) e = go (within lo hi q) refl (smallest_twice (chosen lo hi ns) q (sym e))
+pub window_twice : (lo hi : ℕ) (ns : List ℕ) (f : Option ℕ) → f ≡ first_twice (chosen lo hi ns) → TwiceIn lo hi ns f
+window_twice lo hi ns None e = λ j u v. omega (arith, never_twice (chosen lo hi ns) (sym e) j, count_chosen lo hi j ns (within_true lo hi j u v))
+window_twice lo hi ns (Some q) e = go (within lo hi q) refl (smallest_twice (chosen lo hi ns) q (sym e))
   where
     go : (b : Bool) → within lo hi q ≡ b → (1 < count q (chosen lo hi ns)) × ((j : ℕ) → j < q → count j (chosen lo hi ns) ≤ 1)
         → (1 < count q ns) × ((j : ℕ) → lo ≤ j → j < q → count j ns ≤ 1)
@@ -165,31 +164,31 @@ window_twice lo hi ns (At q) e = go (within lo hi q) refl (smallest_twice (chose
     go false w s = absurd (omega (arith, s.0, apart_chosen lo hi q ns w))
 
 -- a window of one number
-pub single_once : (lo : ℕ) (ns : List ℕ) {hi : ℕ} → hi ≡ lo + 1 → between lo hi ns ≤ 1 → TwiceIn lo hi ns Nothing
+pub single_once : (lo : ℕ) (ns : List ℕ) {hi : ℕ} → hi ≡ lo + 1 → between lo hi ns ≤ 1 → TwiceIn lo hi ns None
 single_once lo ns {hi} e h j u v =
     let z : j ≡ lo = omega arith in
     let w : between lo (lo + 1) ns ≤ 1 = subst (λ (k : ℕ). between lo k ns ≤ 1) e h in
     rw z (omega (arith, one_wide ns lo))
 
-pub single_twice : (lo : ℕ) (ns : List ℕ) {hi : ℕ} → hi ≡ lo + 1 → 1 < between lo hi ns → TwiceIn lo hi ns (At lo)
+pub single_twice : (lo : ℕ) (ns : List ℕ) {hi : ℕ} → hi ≡ lo + 1 → 1 < between lo hi ns → TwiceIn lo hi ns (Some lo)
 single_twice lo ns {hi} e h =
     let w : 1 < between lo (lo + 1) ns = subst (λ (k : ℕ). 1 < between lo k ns) e h in
     (omega (arith, one_wide ns lo), λ j u v. absurd (omega arith))
 
 -- ---- from window to window
 
-pub windows_next : (ns : List ℕ) (lo hi : ℕ) {f : Found} → ((j : ℕ) → j < lo → count j ns ≤ 1) → TwiceIn lo hi ns f → f ≡ Nothing → (j : ℕ) → j < hi → count j ns ≤ 1
+pub windows_next : (ns : List ℕ) (lo hi : ℕ) {f : (Option ℕ)} → ((j : ℕ) → j < lo → count j ns ≤ 1) → TwiceIn lo hi ns f → f ≡ None → (j : ℕ) → j < hi → count j ns ≤ 1
 windows_next ns lo hi h t e j l = ⊎_elim
     (λ u. h j (ltb-true j lo u))
     (λ u. subst (TwiceIn lo hi ns) e t j (ltb-false j lo u) l)
     (either (ltb j lo))
 
-pub windows_found : (ns : List ℕ) (lo hi : ℕ) {f : Found} {q : ℕ} → ((j : ℕ) → j < lo → count j ns ≤ 1) → TwiceIn lo hi ns f → f ≡ At q → At q ≡ first_twice ns
+pub windows_found : (ns : List ℕ) (lo hi : ℕ) {f : (Option ℕ)} {q : ℕ} → ((j : ℕ) → j < lo → count j ns ≤ 1) → TwiceIn lo hi ns f → f ≡ Some q → Some q ≡ first_twice ns
 windows_found ns lo hi {f} {q} h t e =
     let g : (1 < count q ns) × ((j : ℕ) → lo ≤ j → j < q → count j ns ≤ 1) = subst (TwiceIn lo hi ns) e t in
     sym (twice_is ns q g.0 (λ j l. ⊎_elim (λ u. h j (ltb-true j lo u)) (λ u. g.1 j (ltb-false j lo u) l) (either (ltb j lo))))
 
-pub windows_end : (ns : List ℕ) (lo top : ℕ) → ((j : ℕ) → j < lo → count j ns ≤ 1) → top ≤ lo → ((q : ℕ) → top ≤ q → count q ns ≡ 0) → Nothing ≡ first_twice ns
+pub windows_end : (ns : List ℕ) (lo top : ℕ) → ((j : ℕ) → j < lo → count j ns ≤ 1) → top ≤ lo → ((q : ℕ) → top ≤ q → count q ns ≡ 0) → None ≡ first_twice ns
 windows_end ns lo top h g z = sym (twice_none ns (λ j. ⊎_elim
     (λ u. h j (ltb-true j lo u))
     (λ u. omega (arith, z j (omega (arith, ltb-false j lo u))))

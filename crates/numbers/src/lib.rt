@@ -2,13 +2,12 @@
 // The search goes by windows of numbers, from the smallest on, each with as many packets at most as a small array holds.
 #![tactic(auto)]
 
-ghost use Rattle.std.specs.Prelude.{◌≡◌, cond, ℕ, ◌+◌, ◌≤◌, ◌<◌, length, take, drop, eqb};
+ghost use Rattle.std.specs.Prelude.{◌≡◌, cond, ℕ, ◌+◌, ◌≤◌, ◌<◌, length, take, drop, eqb, Some, None};
 ghost use Rattle.box_rules.specs.Numbers.{numbers_from, count, least, first_twice, between};
 ghost use Rattle.numbers.specs.Code.{chosen, TwiceIn};
 ghost use Rattle.box_rules.specs.Numbers.{within as Numbers·within};
 
-use laws::Found;
-use packets::Next;
+use packets::Mine;
 
 fn within(lo: usize, hi: usize, x: usize) -> bool
     ensures { result ≡ Numbers·within lo hi x }
@@ -37,24 +36,24 @@ fn stands_from(held: &[u32], from: usize, q: u32) -> usize
 }
 
 // The lower of a number found before and q, which counts if it stands again.
-fn lower(w: Found, q: usize, again: usize) -> Found
-    ensures { result ≡ least w (cond (eqb again 0) Found.Nothing (Found.At q)) }
+fn lower(w: Option<usize>, q: usize, again: usize) -> Option<usize>
+    ensures { result ≡ least w (cond (eqb again 0) None (Some q)) }
 {
     if again == 0 {
         return w;
     }
     match w {
-        Found::Nothing => Found::At(q),
-        Found::At(a) => { if a < q { Found::At(a) } else { Found::At(q) } }
+        None => Some(q),
+        Some(a) => { if a < q { Some(a) } else { Some(q) } }
     }
 }
 
 // The smallest number in hand that stands twice.
-fn least_twice(held: &[u32]) -> Found
+fn least_twice(held: &[u32]) -> Option<usize>
     ensures { result ≡ first_twice held.now }
 {
     let mut i: usize = 0;
-    let mut w = Found::Nothing;
+    let mut w = None;
     while i < held.len() {
         let q = held[i];
         i += 1;
@@ -71,15 +70,15 @@ fn count_between(file: &[u8], kind: u32, instance: u16, lo: usize, hi: usize) ->
     let mut n: usize = 0;
     loop {
         match packets::next_mine(file, kind, instance, at) {
-            Next::Gone => {
+            None => {
                 return n;
             }
-            Next::Mine {
+            Some(Mine {
                 head,
                 start: _,
                 len: _,
                 next,
-            } => {
+            }) => {
                 n = tick(n, within(lo, hi, head.number as usize));
                 at = next;
             }
@@ -107,15 +106,15 @@ fn past_all(file: &[u8], kind: u32, instance: u16) -> usize
     let mut m: usize = 0;
     loop {
         match packets::next_mine(file, kind, instance, at) {
-            Next::Gone => {
+            None => {
                 return m;
             }
-            Next::Mine {
+            Some(Mine {
                 head,
                 start: _,
                 len: _,
                 next,
-            } => {
+            }) => {
                 m = past(m, head.number);
                 at = next;
             }
@@ -154,15 +153,15 @@ fn gather(file: &[u8], kind: u32, instance: u16, lo: usize, hi: usize, held: &mu
     let mut k: usize = 0;
     loop {
         match packets::next_mine(file, kind, instance, at) {
-            Next::Gone => {
+            None => {
                 return k;
             }
-            Next::Mine {
+            Some(Mine {
                 head,
                 start: _,
                 len: _,
                 next,
-            } => {
+            }) => {
                 let number = head.number;
                 if within(lo, hi, number as usize) {
                     held[k] = number;
@@ -175,22 +174,22 @@ fn gather(file: &[u8], kind: u32, instance: u16, lo: usize, hi: usize, held: &mu
 }
 
 // The smallest number of a window that stands twice.
-fn twice_in(file: &[u8], kind: u32, instance: u16, lo: usize, hi: usize, held: &mut [u32]) -> Found
+fn twice_in(file: &[u8], kind: u32, instance: u16, lo: usize, hi: usize, held: &mut [u32]) -> Option<usize>
     requires { (lo < hi) × (hi ≤ 4294967296) × ((hi ≡ lo + 1 → ⊥) → between lo hi (numbers_from file.now kind instance 2) ≤ length held.old) }
     ensures { TwiceIn lo hi (numbers_from file.now kind instance 2) result }
 {
     if hi == lo + 1 {
         if count_between(file, kind, instance, lo, hi) <= 1 {
-            return Found::Nothing;
+            return None;
         }
-        return Found::At(lo);
+        return Some(lo);
     }
     let k = gather(file, kind, instance, lo, hi, held);
     least_twice(&held[..k])
 }
 
 // The smallest sequence number that stands twice, with an array that takes the numbers of a window.
-fn twice_by(file: &[u8], kind: u32, instance: u16, held: &mut [u32]) -> Found
+fn twice_by(file: &[u8], kind: u32, instance: u16, held: &mut [u32]) -> Option<usize>
     ensures { result ≡ first_twice (numbers_from file.now kind instance 2) }
 {
     let top = past_all(file, kind, instance);
@@ -198,19 +197,19 @@ fn twice_by(file: &[u8], kind: u32, instance: u16, held: &mut [u32]) -> Found
     while lo < top {
         let hi = window_end(file, kind, instance, lo, top, held.len());
         match twice_in(file, kind, instance, lo, hi, held) {
-            Found::At(q) => {
-                return Found::At(q);
+            Some(q) => {
+                return Some(q);
             }
-            Found::Nothing => {
+            None => {
                 lo = hi;
             }
         }
     }
-    Found::Nothing
+    None
 }
 
 // The smallest sequence number that stands twice.
-pub fn first_twice(file: &[u8], kind: u32, instance: u16) -> Found
+pub fn first_twice(file: &[u8], kind: u32, instance: u16) -> Option<usize>
     ensures { result ≡ first_twice (numbers_from file.now kind instance 2) }
 {
     let mut held = [0u32; 16384];

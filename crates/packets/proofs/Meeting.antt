@@ -6,8 +6,8 @@ use mathlib.Core.Bool.{true, false}
 use Rattle.answers.specs.declared.Refusal.{Refusal}
 use Rattle.box_rules.specs.declared.Head.{Head}
 use Rattle.box_rules.specs.declared.Step.TheVariants.{End, Skip, Meet, Broken}
-use Rattle.packets.specs.declared.Next.{Next}
-use Rattle.packets.specs.declared.Next.TheVariants.{Gone, Mine}
+use Rattle.packets.specs.declared.Mine.{Mine}
+use Rattle.std.specs.Prelude.{Option, Some, None}
 use Rattle.box_rules.specs.Walk.{step_at}
 use Rattle.box_rules.specs.Packets.{packet, is_mine, mine, mine_from}
 use Rattle.packets.specs.Code.{Met, NextIs}
@@ -37,8 +37,8 @@ module _ (file : List ℕ) (kind instance at : ℕ) where
   mine_met e w = rw (packets_meet file at e, w)
 
   -- what `next_mine` ensures, once its answer is known
-  pub met : {r : Next} {head : Head} {start len next : ℕ} → NextIs file kind instance at r → r ≡ Mine head start len next → Met file kind instance at head start len next
+  pub met : {r : Option Mine} {m : Mine} → NextIs file kind instance at r → r ≡ Some m → Met file kind instance at m.head m.start m.len m.next
   met n e = subst (NextIs file kind instance at) e n
 
-  pub gone : {r : Next} → NextIs file kind instance at r → r ≡ Gone → mine_from file kind instance at ≡ []
+  pub gone : {r : Option Mine} → NextIs file kind instance at r → r ≡ None → mine_from file kind instance at ≡ []
   gone n e = subst (NextIs file kind instance at) e n

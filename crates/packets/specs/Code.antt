@@ -1,9 +1,8 @@
 -- What the passes of the code say: the packet that comes next, and a quick look at the usual one.
-use Rattle.std.specs.Prelude.{ℕ, ◌+◌, ◌-◌, ◌≤◌, ◌<◌, ◌≡◌, List, [], ◌∷◌, length, get_or}
+use Rattle.std.specs.Prelude.{ℕ, ◌+◌, ◌-◌, ◌≤◌, ◌<◌, ◌≡◌, List, [], ◌∷◌, length, get_or, Option, Some, None}
 use Rattle.box_rules.specs.declared.Head.{Head}
 use Rattle.box_rules.specs.declared.Step.TheVariants.{Meet}
-use Rattle.packets.specs.declared.Next.{Next}
-use Rattle.packets.specs.declared.Next.TheVariants.{Gone, Mine}
+use Rattle.packets.specs.declared.Mine.{Mine}
 use Rattle.box_rules.specs.Walk.{head_at, step_at, steps_from, ending}
 use Rattle.box_rules.specs.Packets.{mine_from, packet}
 
@@ -15,9 +14,9 @@ pub record Met (file : List ℕ) (kind instance at : ℕ) (head : Head) (start l
   pub inside : next ≤ length file
   pub same : ending (steps_from file at) ≡ ending (steps_from file next)
 
-abbrev pub NextIs : List ℕ → ℕ → ℕ → ℕ → Next → Type 0
-NextIs file kind instance at Gone = mine_from file kind instance at ≡ []
-NextIs file kind instance at (Mine head start len next) = Met file kind instance at head start len next
+abbrev pub NextIs : List ℕ → ℕ → ℕ → ℕ → Option Mine → Type 0
+NextIs file kind instance at None = mine_from file kind instance at ≡ []
+NextIs file kind instance at (Some m) = Met file kind instance at m.head m.start m.len m.next
 
 -- a quick look at the usual case: a whole packet with no fill stands at a position. One way only: where it finds none, nothing is said
 pub record Tagged (file : List ℕ) (at : ℕ) : Type 0 where

@@ -1,25 +1,22 @@
 // The walk over a file's segments with a quick look at the usual packet, and the packets of one type and instance (docs/RULES.md, W1 to W9, P1 to P4).
 #![tactic(auto)]
 
-ghost use Rattle.std.specs.Prelude.{◌≡◌, true, ◌+◌, ◌<◌, length};
+ghost use Rattle.std.specs.Prelude.{◌≡◌, true, ◌+◌, ◌<◌, length, IfSome};
 ghost use Rattle.box_rules.specs.Walk.{step_at, steps_from, walk, walk_from, ending};
 ghost use Rattle.box_rules.specs.Walk.{begins as Walk·begins};
 ghost use Rattle.box_rules.specs.Packets.{is_mine};
 ghost use Rattle.packets.specs.Code.{NextIs, Tagged, Packed, MineHere};
 
-use answers::{Outcome, Refusal};
+use answers::Refusal;
 use box_rules::{Head, Step};
 
-// The next packet of a type and instance, with where its payload stands and where to look on.
+// A packet of a type and instance, with where its payload stands and where to look on.
 #[derive(Clone, Copy)]
-pub enum Next {
-    Gone,
-    Mine {
-        head: Head,
-        start: usize,
-        len: usize,
-        next: usize,
-    },
+pub struct Mine {
+    pub head: Head,
+    pub start: usize,
+    pub len: usize,
+    pub next: usize,
 }
 
 // Whether FF EB stand at a position, and 4A 50 behind a length.
@@ -39,60 +36,59 @@ fn marked_here(file: &[u8], at: usize) -> bool
     file[at + 5] == 80
 }
 
-// A quick look at the usual case: the length of the segment where a whole packet in the short form begins at a position with no fill. 0 says nothing.
-fn packet_here(file: &[u8], at: usize) -> usize
-    ensures { 0 < result → Packed file.now at result }
+// A quick look at the usual case: the length of the segment where a whole packet in the short form begins at a position with no fill. None says nothing.
+fn packet_here(file: &[u8], at: usize) -> Option<usize>
+    ensures { IfSome result (λ size. Packed file.now at size) }
 {
     let n = file.len();
     if n < 20 {
-        return 0;
+        return None;
     }
     if n - 20 < at {
-        return 0;
+        return None;
     }
     if !marked_here(file, at) {
-        return 0;
+        return None;
     }
     let size = segments::be16(file, at + 2) as usize;
     if size < 18 {
-        return 0;
+        return None;
     }
     if n - at - 2 < size {
-        return 0;
+        return None;
     }
     if segments::be32(file, at + 12) < 8 {
-        return 0;
+        return None;
     }
-    size
+    Some(size)
 }
 
 // What stands at a position of the file, with the quick look first.
 pub fn step_at(file: &[u8], at: usize) -> Step
     ensures { result ≡ step_at file.now at }
 {
-    let here = packet_here(file, at);
-    if here == 0 {
-        return segments::full_step(file, at);
-    }
-    Step::Meet {
-        head: segments::head_at(file, at + 1),
-        start: at + 20,
-        len: here - 18,
-        next: at + 2 + here,
+    match packet_here(file, at) {
+        None => segments::full_step(file, at),
+        Some(here) => Step::Meet {
+            head: segments::head_at(file, at + 1),
+            start: at + 20,
+            len: here - 18,
+            next: at + 2 + here,
+        },
     }
 }
 
-fn walk_end(file: &[u8], from: usize) -> Outcome
+fn walk_end(file: &[u8], from: usize) -> Result<usize, Refusal>
     ensures { result ≡ ending (steps_from file.now from) }
 {
     let mut at = from;
     loop {
         match step_at(file, at) {
             Step::End => {
-                return Outcome::Given(0);
+                return Ok(0);
             }
             Step::Broken(r) => {
-                return Outcome::Refused(r);
+                return Err(r);
             }
             Step::Skip(next) => {
                 at = next;
@@ -123,13 +119,13 @@ fn begins(file: &[u8]) -> bool
 }
 
 // How the walk over a file ends, from a position on.
-pub fn walk_on(file: &[u8], from: usize) -> Outcome
+pub fn walk_on(file: &[u8], from: usize) -> Result<usize, Refusal>
     ensures { result ≡ ending (walk_from file.now from) }
 {
     if begins(file) {
         walk_end(file, from)
     } else {
-        Outcome::Refused(Refusal {
+        Err(Refusal {
             number: 1,
             place: 0,
             second: 0,
@@ -138,7 +134,7 @@ pub fn walk_on(file: &[u8], from: usize) -> Outcome
 }
 
 // How the walk over a file ends.
-pub fn walk_all(file: &[u8]) -> Outcome
+pub fn walk_all(file: &[u8]) -> Result<usize, Refusal>
     ensures { result ≡ ending (walk file.now) }
 {
     walk_on(file, 2)
@@ -155,32 +151,29 @@ fn is_mine(kind: u32, instance: u16, head: Head) -> bool
 }
 
 // The same quick look for a packet of a type and instance.
-pub fn mine_here(file: &[u8], kind: u32, instance: u16, at: usize) -> usize
-    ensures { 0 < result → MineHere file.now kind instance at result }
+pub fn mine_here(file: &[u8], kind: u32, instance: u16, at: usize) -> Option<usize>
+    ensures { IfSome result (λ len. MineHere file.now kind instance at len) }
 {
-    let len = packet_here(file, at);
-    if len == 0 {
-        return 0;
-    }
+    let len = packet_here(file, at)?;
     if is_mine(kind, instance, segments::head_at(file, at + 1)) {
-        len
+        Some(len)
     } else {
-        0
+        None
     }
 }
 
 // The next packet of a type and instance, from a position on.
-pub fn next_mine(file: &[u8], kind: u32, instance: u16, from: usize) -> Next
+pub fn next_mine(file: &[u8], kind: u32, instance: u16, from: usize) -> Option<Mine>
     ensures { NextIs file.now kind instance from result }
 {
     let mut at = from;
     loop {
         match step_at(file, at) {
             Step::End => {
-                return Next::Gone;
+                return None;
             }
             Step::Broken(_) => {
-                return Next::Gone;
+                return None;
             }
             Step::Skip(next) => {
                 at = next;
@@ -192,12 +185,12 @@ pub fn next_mine(file: &[u8], kind: u32, instance: u16, from: usize) -> Next
                 next,
             } => {
                 if is_mine(kind, instance, head) {
-                    return Next::Mine {
+                    return Some(Mine {
                         head,
                         start,
                         len,
                         next,
-                    };
+                    });
                 }
                 at = next;
             }

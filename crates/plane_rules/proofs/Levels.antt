@@ -2,14 +2,13 @@
 use mathlib.Core.Path.{◌≡◌, refl, ap, ap₂, fun_ext, ◌∙◌}
 use mathlib.Core.Bool.{true}
 use mathlib.Core.List.{List, [], ◌∷◌, map, map-map}
-use mathlib.Core.Option.{Option, some}
+use Rattle.std.specs.Prelude.{Option, Some, None}
 use Prim.Native.Nat.{ℕ, zero, suc, ◌+◌, ◌-◌, ◌*◌, ◌/◌, ◌^◌, ◌≤◌, ◌<◌}
 use native.Mathlib.Nat.{pow-suc}
 use native.Mathlib.Omega.{arith}
 use lib.Dec.{ltb}
 use lib.IntN.{ℤ}
 use borrow.Author.Tests.{ltb-true, lt-ltb}
-use Rattle.laws.specs.declared.Found.TheVariants.{Nothing}
 use Rattle.levels.specs.Level.{in_level, is_dc, first_outside}
 use Rattle.levels.specs.declared.Part.{Part}
 use Rattle.levels.proofs.Mapped.{mapped_inside}
@@ -34,7 +33,7 @@ pub record Halving (part : Part) (half : ℤ → ℤ) (divide : ℕ → ℤ → 
 
 module _ {part : Part} {half : ℤ → ℤ} {divide : ℕ → ℤ → ℤ} (a : Halving part half divide) where
   -- the halves lie in the level below
-  pub halves_inside : (level : ℕ) (values : List ℤ) → 1 ≤ level → first_outside part level values ≡ Nothing → first_outside part (level - 1) (map half values) ≡ Nothing
+  pub halves_inside : (level : ℕ) (values : List ℤ) → 1 ≤ level → first_outside part level values ≡ None → first_outside part (level - 1) (map half values) ≡ None
   halves_inside level values h e =
       let q : suc (level - 1) ≡ level = omega arith in
       mapped_inside part (suc (level - 1)) (level - 1) half (a.lower (level - 1)) values (rw q e)
@@ -54,14 +53,14 @@ module _ {part : Part} {half : ℤ → ℤ} {divide : ℕ → ℤ → ℤ} (a : 
         let e : suc (k - suc j) ≡ k - j = omega arith in
         map-map half (divide (k - suc j)) full ∙ ap (λ (f : ℤ → ℤ). map f full) (fun_ext (a.again (k - suc j))) ∙ ap (λ (m : ℕ). map (divide m) full) e
 
-    pub level_inside : first_outside part k full ≡ Nothing → (j : ℕ) → j ≤ k → first_outside part j (at_level divide k full j) ≡ Nothing
+    pub level_inside : first_outside part k full ≡ None → (j : ℕ) → j ≤ k → first_outside part j (at_level divide k full j) ≡ None
     level_inside range j l =
         let e : j + (k - j) ≡ k = omega arith in
         mapped_inside part k j (divide (k - j)) (λ i x q. deep (k - j) j i x (rw e q)) full range
 
 -- if each plane takes its level to the next, then j planes take the base to level j
-pub climbed : {A : Type 0} (plane : ℕ → A → Option A) (level : ℕ → A) (k : ℕ) → ((j : ℕ) → j < k → plane (suc j) (level j) ≡ some (level (suc j)))
-    → (j : ℕ) → j ≤ k → climb plane j (level 0) ≡ some (level j)
+pub climbed : {A : Type 0} (plane : ℕ → A → Option A) (level : ℕ → A) (k : ℕ) → ((j : ℕ) → j < k → plane (suc j) (level j) ≡ Some (level (suc j)))
+    → (j : ℕ) → j ≤ k → climb plane j (level 0) ≡ Some (level j)
 unfolding climb
 climbed plane level k h zero l = refl
 climbed plane level k h (suc j) l = rw (climbed plane level k h j (omega arith)) (h j l)

@@ -2,7 +2,7 @@
 use mathlib.Core.Path.{◌≡◌, refl}
 use mathlib.Core.List.{List, [], ◌∷◌, ◌++◌, map}
 use mathlib.Core.Bool.{true}
-use mathlib.Core.Option.{none, some}
+use Rattle.std.specs.Prelude.{Some, None}
 use Prim.Native.Nat.{ℕ}
 use lib.IntN.{ℤ, pos, negsuc}
 use lib.ListN.{replicate}
@@ -228,5 +228,5 @@ unfolding take_number end_run
 run_of_one = (refl, refl)
 
 -- "a run of 2^r + e blocks ends here, this one included": a run goes from block to block, a walk does not
-pub between_blocks : map over (none ∷ some (ended 0) ∷ some (ended 1) ∷ some (ended 5) ∷ some (walk 3 none) ∷ []) ≡ (none ∷ none ∷ some (ended 0) ∷ some (ended 4) ∷ none ∷ [])
+pub between_blocks : map over (None ∷ Some (ended 0) ∷ Some (ended 1) ∷ Some (ended 5) ∷ Some (walk 3 None) ∷ []) ≡ (None ∷ None ∷ Some (ended 0) ∷ Some (ended 4) ∷ None ∷ [])
 between_blocks = refl

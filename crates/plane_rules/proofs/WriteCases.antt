@@ -2,7 +2,7 @@
 use mathlib.Core.Path.{◌≡◌, refl}
 use mathlib.Core.List.{List, [], ◌∷◌, ◌++◌, map}
 use mathlib.Core.Bool.{true, false}
-use mathlib.Core.Option.{none, some}
+use Rattle.std.specs.Prelude.{Some, None}
 use Prim.Native.Nat.{ℕ}
 use lib.IntN.{pos, negsuc}
 use lib.ListN.{replicate}
@@ -131,12 +131,12 @@ classes = refl
 
 -- a correction passes no zero; the last zero ends a walk; an end run goes on
 pub between_values : (
-    after (walk 1 none) (keep true)
-    ∷ after (walk 1 none) still
-    ∷ after (walk 0 none) still
-    ∷ after (walk 0 (some true)) (fresh true)
+    after (walk 1 None) (keep true)
+    ∷ after (walk 1 None) still
+    ∷ after (walk 0 None) still
+    ∷ after (walk 0 (Some true)) (fresh true)
     ∷ after (ended 2) still
     ∷ after (ended 2) (keep false)
     ∷ [])
-    ≡ (some (walk 1 none) ∷ some (walk 0 none) ∷ none ∷ none ∷ some (ended 2) ∷ some (ended 2) ∷ [])
+    ≡ (Some (walk 1 None) ∷ Some (walk 0 None) ∷ None ∷ None ∷ Some (ended 2) ∷ Some (ended 2) ∷ [])
 between_values = refl

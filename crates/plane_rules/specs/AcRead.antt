@@ -6,8 +6,7 @@
 -- nothing open: code 00 is r 0, s 0, an end run of 2^0 + 0 = 1 block, `ended 0`: the zeros up to 63 stay, and behind 63 nothing is open. The bits left,
 -- 11, are ones, and no byte follows: 6, -1 and zeros are given. Over zeros alone the same data make position 1 the -1, then position 2 reads the code
 -- 00, and the bits left are 011: 18, place 1.
-use Rattle.std.specs.Prelude.{Bool, cond, List, [], ◌∷◌, ℕ, zero, suc, ◌+◌, ◌-◌, ◌*◌, ◌/◌, ◌%◌, ◌^◌, eqb, ltb, leb, ℤ, pos, negsuc, length}
-use Rattle.std.proofs.Math.Option.{Option, none, some}
+use Rattle.std.specs.Prelude.{Bool, cond, List, [], ◌∷◌, ℕ, zero, suc, ◌+◌, ◌-◌, ◌*◌, ◌/◌, ◌%◌, ◌^◌, eqb, ltb, leb, ℤ, pos, negsuc, length, Option, Some, None}
 use Rattle.laws.specs.Index.{every}
 use Rattle.answers.specs.Verdict.{Verdict, need, unless}
 use Rattle.levels.specs.Level.{first_outside}
@@ -30,16 +29,16 @@ end_run left r = do
 -- R5, R8, R9, R10: "r (high four bits) and s (low four); s above 1 gives 15"; "one sign bit (1 is positive). Then walk on";
 -- "through the 16th zero, which stays zero"
 unfoldable pub meaning : ℕ → ℕ → ℕ → Reader Task
-meaning left r zero = cond (ltb r 15) (end_run left r) (done (walk 15 none))
+meaning left r zero = cond (ltb r 15) (end_run left r) (done (walk 15 None))
 meaning left r (suc zero) = do
   b ← take_bit
-  done (walk r (some b))
+  done (walk r (Some b))
 meaning left r (suc (suc s)) = fail 15
 
 -- R5, R7: the task at a position: where none is open, the next code makes one
 unfoldable pub task_at : Table → ℕ → Option Task → Reader Task
-task_at T left (some t) = done t
-task_at T left none = do
+task_at T left (Some t) = done t
+task_at T left None = do
   v ← take_code T
   meaning left (v / 16) (v % 16)
 
@@ -53,16 +52,16 @@ unfoldable pub position : Task → ℤ → Reader (ℤ × Option Task)
 position t (pos zero) = done (at_zero t, pass t)
 position t (pos (suc n)) = do
   b ← take_bit
-  done (corrected (pos (suc n)) b, some t)
+  done (corrected (pos (suc n)) b, Some t)
 position t (negsuc n) = do
   b ← take_bit
-  done (corrected (negsuc n) b, some t)
+  done (corrected (negsuc n) b, Some t)
 
 -- R11, R13, R14: behind position 63 an open walk has "no place left in the block": 16; an end run goes on
 unfoldable pub block_end : Option Task → Reader (List ℤ × Option Task)
-block_end none = done ([], none)
-block_end (some (ended n)) = done ([], over (some (ended n)))
-block_end (some (walk n sign)) = fail 16
+block_end None = done ([], None)
+block_end (Some (ended n)) = done ([], over (Some (ended n)))
+block_end (Some (walk n sign)) = fail 16
 
 -- R5, R14: the positions of a block from here on: their new values, and the task that the next block begins with
 unfoldable pub ac_block : Table → ℕ → Option Task → List ℤ → Reader (List ℤ × Option Task)
@@ -89,4 +88,4 @@ read_ac plane blocks T values bytes room =
     (need (good_table T) 10 0
     (unless 11 (first_outside Ac (plane - 1) values)
     (need (leb (63 * blocks) room) 9 (63 * blocks)
-    (closed (ac_blocks T 0 none (cut blocks values) (start bytes)))))))
+    (closed (ac_blocks T 0 None (cut blocks values) (start bytes)))))))

@@ -5,11 +5,8 @@
 -- nothing open: the new value ahead has 0 zeros before it (a correction does not count), so the task is `walk 0 (some false)`: code 01 and the sign
 -- bit 0; then the 6 puts its correction bit, 0. Position 2 puts nothing, and the task is done. Position 3, nothing open, no new value ahead: `ended 0`,
 -- 1 block being 2^0 + 0: code 00 and no bits, and the zeros behind it put nothing. By T these are 01 0 0 00, filled up with 11: 0100 0011, data 43.
-use Rattle.std.specs.Prelude.{Bool, true, false, cond, List, [], ◌∷◌, ◌++◌, map, ℕ, zero, suc, ◌+◌, ◌-◌, ◌*◌, ◌/◌, ◌^◌, eqb, ltb, ℤ, pos, negsuc, neg_ℤ, nat_abs, length}
-use Rattle.std.proofs.Math.Option.{Option, none, some}
+use Rattle.std.specs.Prelude.{Bool, true, false, cond, List, [], ◌∷◌, ◌++◌, map, ℕ, zero, suc, ◌+◌, ◌-◌, ◌*◌, ◌/◌, ◌^◌, eqb, ltb, ℤ, pos, negsuc, neg_ℤ, nat_abs, length, Option, Some, None}
 use Rattle.laws.specs.Index.{every}
-use Rattle.laws.specs.declared.Found.{Found}
-use Rattle.laws.specs.declared.Found.TheVariants.{At, Nothing}
 use Rattle.answers.specs.Verdict.{Verdict, need, unless, fitting}
 use Rattle.levels.specs.Level.{first_outside}
 use Rattle.levels.specs.declared.Part.TheVariants.{Ac}
@@ -44,20 +41,20 @@ kind_of value = cond (eqb (nat_abs (ac_half value)) 0) (from_zero value) (keep (
 
 -- E6: one zero more before the next new value
 unfoldable pub one_more : Option (ℕ × Bool) → Option (ℕ × Bool)
-one_more none = none
-one_more (some p) = some (suc p.0, p.1)
+one_more None = None
+one_more (Some p) = Some (suc p.0, p.1)
 
 -- E6: the zeros before the next new value, and its sign; nothing if no new value is left in the block
 unfoldable pub ahead : List Kind → Option (ℕ × Bool)
-ahead [] = none
+ahead [] = None
 ahead (keep b ∷ kinds) = ahead kinds
 ahead (still ∷ kinds) = one_more (ahead kinds)
-ahead (fresh b ∷ kinds) = some (0, b)
+ahead (fresh b ∷ kinds) = Some (0, b)
 
 -- E8: one block more, unless it has a new value
 abbrev pub unless_new : Option (ℕ × Bool) → ℕ → ℕ
-unless_new none n = suc n
-unless_new (some p) n = 0
+unless_new None n = suc n
+unless_new (Some p) n = 0
 
 -- E8: "the longest end run": the blocks, from the first on, that have no new value
 unfoldable pub quiet : List (List Kind) → ℕ
@@ -66,8 +63,8 @@ quiet (b ∷ bs) = unless_new (ahead b) (quiet bs)
 
 -- E6, E7: the task where a code is needed: an end run "directly after the last new value"; "the 16-zero code only before a later new value"
 abbrev pub planned : Option (ℕ × Bool) → ℕ → Task
-planned none n = ended n
-planned (some p) n = cond (ltb p.0 16) (walk p.0 (some p.1)) (walk 15 none)
+planned None n = ended n
+planned (Some p) n = cond (ltb p.0 16) (walk p.0 (Some p.1)) (walk 15 None)
 
 -- E6, E7: the same for the values from here on and the later blocks
 unfoldable pub plan : List Kind → List (List Kind) → Task
@@ -89,19 +86,19 @@ class n = order 14 n
 
 -- E6, E8: a task as its code, and the sign bit or the bits of the run
 unfoldable pub emit : Task → List Token
-emit (walk n none) = code (16 * n) ∷ []
-emit (walk n (some b)) = code (16 * n + 1) ∷ raw b ∷ []
+emit (walk n None) = code (16 * n) ∷ []
+emit (walk n (Some b)) = code (16 * n + 1) ∷ raw b ∷ []
 emit (ended n) = code (16 * class (suc n)) ∷ map raw (digits (class (suc n)) (suc n - 2 ^ class (suc n)))
 
 -- E5: the task at a position: the one that is open, or a new one
 abbrev pub choose : Option Task → List Kind → List (List Kind) → Task
-choose none kinds later = plan kinds later
-choose (some t) kinds later = t
+choose None kinds later = plan kinds later
+choose (Some t) kinds later = t
 
 -- E5: what tells it, if it is a new one
 abbrev pub tell : Option Task → Task → List Token
-tell none t = emit t
-tell (some u) t = []
+tell None t = emit t
+tell (Some u) t = []
 
 -- E5: the correction bit of a value
 abbrev pub mark : Kind → List Token
@@ -111,7 +108,7 @@ mark (fresh b) = []
 
 -- E5: what is left of the task behind a value
 abbrev pub after : Task → Kind → Option Task
-after t (keep b) = some t
+after t (keep b) = Some t
 after t still = pass t
 after t (fresh b) = pass t
 
@@ -130,16 +127,16 @@ write_blocks o (b ∷ bs) = let r : List Token × Option Task = write_block o b 
 
 -- E5: all that is written of a plane
 unfoldable pub tokens : ℕ → List ℤ → List Token
-tokens blocks values = write_blocks none (map (map kind_of) (cut blocks values))
+tokens blocks values = write_blocks None (map (map kind_of) (cut blocks values))
 
 -- E9: 19, "writer's table lacks a code", "the code's value", "first needed in writing order"
-abbrev pub or_else : ℕ → Found → Found → Found
-or_else v Nothing rest = At v
-or_else v (At k) rest = rest
+abbrev pub or_else : ℕ → Option ℕ → Option ℕ → Option ℕ
+or_else v None rest = Some v
+or_else v (Some k) rest = rest
 
 -- E9: the first such code of the tokens
-unfoldable pub lacking : Table → List Token → Found
-lacking T [] = Nothing
+unfoldable pub lacking : Table → List Token → Option ℕ
+lacking T [] = None
 lacking T (raw b ∷ rest) = lacking T rest
 lacking T (code v ∷ rest) = or_else v (place_of v T.values) (lacking T rest)
 

@@ -1,6 +1,5 @@
 -- The values of a lower level, and planes read one after another, for D3.
-use Rattle.std.specs.Prelude.{List, map, ℕ, zero, suc, ◌-◌, ◌/◌, ◌^◌, ℤ, pos, negsuc, neg_ℤ}
-use Rattle.std.proofs.Math.Option.{Option, none, some}
+use Rattle.std.specs.Prelude.{List, map, ℕ, zero, suc, ◌-◌, ◌/◌, ◌^◌, ℤ, pos, negsuc, neg_ℤ, Option, Some, None}
 use Rattle.answers.specs.Verdict.{Verdict, given, refused}
 
 -- D3: divided by 2^m, downward (for DC): negsuc n is -(n+1)
@@ -19,15 +18,15 @@ at_level divide k full j = map (divide (k - j)) full
 
 -- D3: what was handed out, if anything was
 abbrev pub accepted : {A : Type 0} → Verdict A → Option (List A)
-accepted (given ys) = some ys
-accepted (refused r) = none
+accepted (given ys) = Some ys
+accepted (refused r) = None
 
 -- D3: go on with what was accepted
 abbrev pub if_some : {A : Type 0} → (A → Option A) → Option A → Option A
-if_some next none = none
-if_some next (some a) = next a
+if_some next None = None
+if_some next (Some a) = next a
 
 -- D3: the planes 1 to j one after another, each read over what the one before it gave
 unfoldable pub climb : {A : Type 0} → (ℕ → A → Option A) → ℕ → A → Option A
-climb plane zero base = some base
+climb plane zero base = Some base
 climb plane (suc j) base = if_some (plane (suc j)) (climb plane j base)

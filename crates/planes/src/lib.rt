@@ -6,15 +6,8 @@ ghost use Rattle.laws.specs.Index.{every};
 ghost use Rattle.plane_rules.specs.Plane.{readable, our_writer, writable};
 ghost use Rattle.planes.specs.Code.{Closes};
 
-use answers::{Outcome, Refusal};
+use answers::Refusal;
 use bits::Cursor;
-
-// What reading the blocks of a plane comes to.
-#[derive(Clone, Copy)]
-pub enum Blocks {
-    Read(Cursor),
-    Refused(Refusal),
-}
 
 // Whether plane and blocks lie in the ranges of a plane.
 pub fn readable(plane: u32, blocks: usize) -> bool
@@ -37,15 +30,19 @@ pub fn writable(plane: u32) -> bool
 }
 
 // What must follow the last block; `count` values were written.
-pub fn close_plane(data: &[u8], count: usize, ran: Blocks) -> Outcome
+pub fn close_plane(
+    data: &[u8],
+    count: usize,
+    ran: Result<Cursor, Refusal>,
+) -> Result<usize, Refusal>
     ensures { Closes «data».now count ran result }
 {
     match ran {
-        Blocks::Refused(r) => Outcome::Refused(r),
-        Blocks::Read(c) => {
+        Err(r) => Err(r),
+        Ok(c) => {
             let e = bits::reader::end_at(data, c);
             if e.padding {
-                return Outcome::Given(count);
+                return Ok(count);
             }
             answers::refuse(18, e.seen)
         }

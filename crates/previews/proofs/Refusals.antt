@@ -4,7 +4,7 @@ use mathlib.Core.List.{List}
 use Prim.Native.Nat.{ℕ, ◌<◌, ◌≤◌}
 use borrow.Author.Tests.{lt-leb, le-leb, eq-eqb, ne_eqb}
 use lib.ListN.{length}
-use Rattle.laws.specs.declared.Found.TheVariants.{At, Nothing}
+use Rattle.std.specs.Prelude.{Some, None}
 use Rattle.answers.specs.Verdict.{Verdict, refused, refusal, given}
 use Rattle.transform_rules.specs.Call.{first_bad_quantiser}
 use Rattle.transform_rules.proofs.Lengths.{quantiser_small}
@@ -27,11 +27,11 @@ module _ (left : ℕ) (quantisers : List ℕ) (room : ℕ) where
     miscounted h = rw (le-leb left 4 few, ne_eqb (length quantisers) 64 h)
 
     module _ (tabled : length quantisers ≡ 64) where
-      pub quantiser_bad : {i : ℕ} → first_bad_quantiser quantisers ≡ At i → verdict ≡ refused (refusal 22 i)
+      pub quantiser_bad : {i : ℕ} → first_bad_quantiser quantisers ≡ Some i → verdict ≡ refused (refusal 22 i)
       unfolding preview_owes
       quantiser_bad h = rw (le-leb left 4 few, eq-eqb (length quantisers) 64 tabled, h)
 
-      module _ (sound : first_bad_quantiser quantisers ≡ Nothing) where
+      module _ (sound : first_bad_quantiser quantisers ≡ None) where
         pub too_short : room < 64 → verdict ≡ refused (refusal 9 64)
         unfolding preview_owes
         too_short h = rw (le-leb left 4 few, eq-eqb (length quantisers) 64 tabled, sound, block_long left quantisers, lt-leb 64 room h)

@@ -9,8 +9,7 @@ ghost use Rattle.preview_rules.specs.Owed.{owed_block};
 ghost use Rattle.preview_rules.specs.Call.{preview_owes};
 ghost use Rattle.previews.specs.Code.{magnitude, magnitude_table, row_table, along, reach_table, quarter, fold, unfolded, Quantised, Few};
 
-use answers::{Answer, Outcome};
-use laws::Found;
+use answers::{Answer, Refusal};
 
 // cos(m pi/16) in 8192ths, m 1 to 7.
 const COS1: u64 = 8035;
@@ -168,7 +167,11 @@ fn write_block(left: usize, quantisers: &[u16], destination: &mut [u32])
 }
 
 // The call before a refusal's zeros.
-fn try_preview_owes(left: u32, quantisers: &[u16], destination: &mut [u32]) -> Outcome
+fn try_preview_owes(
+    left: u32,
+    quantisers: &[u16],
+    destination: &mut [u32],
+) -> Result<usize, Refusal>
     ensures { Tried 0 (preview_owes left quantisers.now (length destination.old))
         destination.old destination.new result }
 {
@@ -179,14 +182,14 @@ fn try_preview_owes(left: u32, quantisers: &[u16], destination: &mut [u32]) -> O
         return answers::refuse(21, 0);
     }
     let bad = transform::first_bad_quantiser(quantisers);
-    if let Found::At(index) = bad {
+    if let Some(index) = bad {
         return answers::refuse(22, index);
     }
     if destination.len() < 64 {
         return answers::refuse(9, 64);
     }
     write_block(left as usize, quantisers, destination);
-    Outcome::Given(64)
+    Ok(64)
 }
 
 // How far a preview can be from the full picture at each place of a block, in samples, with so many planes left.
@@ -195,8 +198,8 @@ pub fn preview_owes(left: u32, quantisers: &[u16], destination: &mut [u32]) -> A
         destination.old destination.new result }
 {
     let outcome = try_preview_owes(left, quantisers, destination);
-    if let Outcome::Refused(_) = outcome {
-        answers::clear_u32(destination);
+    if let Err(_) = outcome {
+        answers::clear(destination, 0);
         return answers::answer_of(outcome);
     }
     answers::answer_of(outcome)

@@ -7,7 +7,7 @@ use native.Mathlib.Omega.{arith}
 use lib.ListN.{length}
 use lib.Dec.{eqb, leb}
 use borrow.Author.Tests.{eqb-true, leb-true}
-use Rattle.laws.specs.declared.Found.TheVariants.{Nothing}
+use Rattle.std.specs.Prelude.{None}
 use Rattle.laws.proofs.Choices.{by_test, cond_left, cond_right}
 use Rattle.box_rules.specs.Packets.{Packet}
 use Rattle.box_rules.specs.Numbers.{numbers, count, first_twice, first_missing}
@@ -29,10 +29,10 @@ module _ (ps : List Packet) (h : in_order 1 (numbers ps) ≡ true) where
   in_order_lem : numbers ps ≡ counting 1 (length ps)
   in_order_lem = order_reads (numbers ps) 1 h ∙ ap (counting 1) (numbers_length ps)
 
-  pub order_twice : first_twice (numbers ps) ≡ Nothing
+  pub order_twice : first_twice (numbers ps) ≡ None
   order_twice = reads_twice ps in_order_lem
 
-  pub order_missing : first_missing (numbers ps) ≡ Nothing
+  pub order_missing : first_missing (numbers ps) ≡ None
   order_missing = reads_missing ps in_order_lem
 
   pub order_joined : joined ps ≡ payloads ps
@@ -51,5 +51,5 @@ rises_from (x ∷ r) a h q =
         (λ e. let z = eqb-true x q e in let n = i.1 (omega arith) in (omega arith, λ l. absurd (omega arith)))
         (λ e. (i.0, λ l. i.1 (omega arith)))
 
-pub rises_twice : (ns : List ℕ) → rises 0 ns ≡ true → first_twice ns ≡ Nothing
+pub rises_twice : (ns : List ℕ) → rises 0 ns ≡ true → first_twice ns ≡ None
 rises_twice ns h = twice_none ns (λ q. (rises_from ns 0 h q).0)

@@ -1,7 +1,5 @@
 -- What one pass over the packets of a type and instance finds, and what is wrong with their numbers.
-use Rattle.std.specs.Prelude.{ℕ, ◌+◌, suc, ◌≡◌, List, [], ◌∷◌, Bool, false, cond, true, length, eqb, leb}
-use Rattle.laws.specs.declared.Found.{Found}
-use Rattle.laws.specs.declared.Found.TheVariants.{At, Nothing}
+use Rattle.std.specs.Prelude.{ℕ, ◌+◌, suc, ◌≡◌, List, [], ◌∷◌, Bool, false, cond, true, length, eqb, leb, Option, Some, None}
 use Rattle.box_rules.specs.declared.Head.{Head}
 use Rattle.box_rules.specs.Packets.{Packet, mine_from}
 use Rattle.box_rules.specs.Numbers.{numbers, first_twice, first_missing}
@@ -44,10 +42,10 @@ found_more s h head len next = record {
 }
 
 -- what is wrong with sequence numbers: 6 before 7
-abbrev pub fault_by : Found → Found → Fault
-fault_by (At q) m = Twice q
-fault_by Nothing (At q) = Missing q
-fault_by Nothing Nothing = Fine
+abbrev pub fault_by : Option ℕ → Option ℕ → Fault
+fault_by (Some q) m = Twice q
+fault_by None (Some q) = Missing q
+fault_by None None = Fine
 
 unfoldable pub fault_of : List ℕ → Fault
 fault_of ns = fault_by (first_twice ns) (first_missing ns)

@@ -7,7 +7,7 @@ ghost use Rattle.box_rules.specs.Box.{alike as Box·alike};
 ghost use Rattle.scans.specs.Code.{mine_of, Scanned, found_more};
 
 use box_rules::Head;
-use packets::Next;
+use packets::Mine;
 
 // What one pass over the packets of a type and instance finds. `above` is the number behind the last one, `end` where it stopped.
 #[derive(Clone, Copy)]
@@ -84,21 +84,22 @@ pub fn scan_all(file: &[u8], kind: u32, instance: u16, h: Head) -> Scan
     };
     loop {
         let at = s.end;
-        let here = packets::mine_here(file, kind, instance, at);
-        if 0 < here {
+        if let Some(here) = packets::mine_here(file, kind, instance, at) {
             let head = segments::head_at(file, at + 1);
             s = found_more(s, h, head, here - 18, at + 2 + here);
         } else {
             match packets::next_mine(file, kind, instance, at) {
-                Next::Gone => {
+                None => {
                     return s;
                 }
-                Next::Mine {
-                    head,
-                    start: _,
-                    len,
-                    next,
-                } => {
+                Some(
+                    Mine {
+                        head,
+                        start: _,
+                        len,
+                        next,
+                    },
+                ) => {
                     s = found_more(s, h, head, len, next);
                 }
             }

@@ -150,16 +150,16 @@ pub fn lengths_right(
 }
 
 // 11: the first entry of a table above the most that it may be.
-pub fn first_large(table: &[u16], most: u32) -> laws::Found
+pub fn first_large(table: &[u16], most: u32) -> Option<usize>
     ensures { result ≡ first_fail (length table.now) (entry_right most table.now) }
 {
     let mut i = 0;
     while i < table.len() {
         let entry = table[i] as u32;
         if most < entry {
-            return laws::Found::At(i);
+            return Some(i);
         }
         i += 1;
     }
-    laws::Found::Nothing
+    None
 }

@@ -7,7 +7,6 @@ ghost use Rattle.test_rules.specs.Wanted.{wanted, is_wanted, same_value, right a
 ghost use Rattle.test_rules.specs.Runs.{goes_on, counted as Runs·counted, begun as Runs·begun, next_run};
 
 use answers::Answer;
-use laws::Found;
 use test_rules::{Finding, Run};
 
 // What a call must leave at an index: 0 after a refusal, else the byte expected, and behind those the 7 of before.
@@ -24,18 +23,18 @@ fn wanted_byte(expected: &[u8], number: usize, i: usize) -> u8
 }
 
 // The first index at which a call left another byte.
-pub fn first_wrong_byte(output: &[u8], expected: &[u8], number: usize) -> Found
+pub fn first_wrong_byte(output: &[u8], expected: &[u8], number: usize) -> Option<usize>
     ensures { result ≡ first_fail (length output.now) (is_wanted eqb 0 7 output.now expected.now number) }
 {
     let mut i = 0;
     while i < output.len() {
         let want = wanted_byte(expected, number, i);
         if output[i] != want {
-            return Found::At(i);
+            return Some(i);
         }
         i += 1;
     }
-    Found::Nothing
+    None
 }
 
 fn same_value(a: i32, b: i32) -> bool
@@ -61,22 +60,22 @@ fn wanted_value(expected: &[i32], number: usize, i: usize) -> i32
 }
 
 // The first index at which a call left another value.
-pub fn first_wrong_value(output: &[i32], expected: &[i32], number: usize) -> Found
+pub fn first_wrong_value(output: &[i32], expected: &[i32], number: usize) -> Option<usize>
     ensures { result ≡ first_fail (length output.now) (is_wanted same_value (pos 0) (pos 7) output.now expected.now number) }
 {
     let mut i = 0;
     while i < output.len() {
         let want = wanted_value(expected, number, i);
         if !same_value(output[i], want) {
-            return Found::At(i);
+            return Some(i);
         }
         i += 1;
     }
-    Found::Nothing
+    None
 }
 
 // A call gave this number, place and second place, and nothing that it left is wrong.
-pub fn right(a: Answer, number: usize, place: usize, second: usize, wrong: Found) -> bool
+pub fn right(a: Answer, number: usize, place: usize, second: usize, wrong: Option<usize>) -> bool
     ensures { result ≡ Wanted·right a number place second wrong }
 {
     if a.number as usize != number {
@@ -89,8 +88,8 @@ pub fn right(a: Answer, number: usize, place: usize, second: usize, wrong: Found
         return false;
     }
     match wrong {
-        Found::At(_) => false,
-        Found::Nothing => true,
+        Some(_) => false,
+        None => true,
     }
 }
 

@@ -5,7 +5,7 @@ use mathlib.Core.List.{List, [], ◌∷◌, map}
 use Prim.Native.Nat.{ℕ}
 use lib.Dec.{eqb}
 use lib.IntN.{pos, negsuc}
-use Rattle.laws.specs.declared.Found.TheVariants.{At, Nothing}
+use Rattle.std.specs.Prelude.{Some, None}
 use Rattle.answers.specs.declared.Answer.{Answer}
 use Rattle.test_rules.specs.Fields.{pair_at, number_at}
 use Rattle.test_rules.specs.declared.Run.{Run}
@@ -33,7 +33,7 @@ abbrev answer : Answer
 answer = record { number = 7; place = 2; second = 5 }
 
 -- number, place, second place and destination, each alone
-pub judged : right answer 7 2 5 Nothing ∷ right answer 6 2 5 Nothing ∷ right answer 7 1 5 Nothing ∷ right answer 7 2 0 Nothing ∷ right answer 7 2 5 (At 0) ∷ []
+pub judged : right answer 7 2 5 None ∷ right answer 6 2 5 None ∷ right answer 7 1 5 None ∷ right answer 7 2 0 None ∷ right answer 7 2 5 (Some 0) ∷ []
     ≡ true ∷ false ∷ false ∷ false ∷ false ∷ []
 unfolding right nothing
 judged = refl

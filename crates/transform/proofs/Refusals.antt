@@ -8,7 +8,7 @@ use lib.Dec.{leb, eqb}
 use lib.IntN.{ℤ}
 use lib.ListN.{length}
 use Rattle.laws.specs.Index.{every}
-use Rattle.laws.specs.declared.Found.TheVariants.{At, Nothing}
+use Rattle.std.specs.Prelude.{Some, None}
 use Rattle.answers.specs.Verdict.{Verdict, refused, refusal, given}
 use Rattle.levels.specs.Level.{first_outside}
 use Rattle.levels.specs.declared.Part.TheVariants.{Whole}
@@ -49,16 +49,16 @@ module _ (refinement blocks : ℕ) (values : List ℤ) (quantisers : List ℕ) (
           unfolding every
           counts_met = rw (eq-eqb (length values) (blocks * 64) counted, eq-eqb (length quantisers) 64 tabled)
 
-          pub quantiser_bad : {i : ℕ} → first_bad_quantiser quantisers ≡ At i → verdict ≡ refused (refusal 22 i)
+          pub quantiser_bad : {i : ℕ} → first_bad_quantiser quantisers ≡ Some i → verdict ≡ refused (refusal 22 i)
           unfolding inverse_transform
           quantiser_bad h = rw (settings_met, counts_met, h)
 
-          module _ (sound : first_bad_quantiser quantisers ≡ Nothing) where
-            pub value_outside : {i : ℕ} → first_outside Whole refinement values ≡ At i → verdict ≡ refused (refusal 11 i)
+          module _ (sound : first_bad_quantiser quantisers ≡ None) where
+            pub value_outside : {i : ℕ} → first_outside Whole refinement values ≡ Some i → verdict ≡ refused (refusal 11 i)
             unfolding inverse_transform
             value_outside h = rw (settings_met, counts_met, sound, h)
 
-            module _ (inside : first_outside Whole refinement values ≡ Nothing) where
+            module _ (inside : first_outside Whole refinement values ≡ None) where
               pub too_short : room < blocks * 64 → verdict ≡ refused (refusal 9 (blocks * 64))
               unfolding inverse_transform
               too_short h = rw (settings_met, counts_met, sound, inside, picture_length refinement blocks values quantisers, lt-leb (blocks * 64) room h)
@@ -69,7 +69,7 @@ module _ (refinement blocks : ℕ) (values : List ℤ) (quantisers : List ℕ) (
 
 -- what the code then asks
 module _ (values : List ℤ) (quantisers : List ℕ) where
-  pub in_range : (refinement : ℕ) → refinement ≤ 4 → length quantisers ≡ 64 → first_bad_quantiser quantisers ≡ Nothing
-      → first_outside Whole refinement values ≡ Nothing → InRange values quantisers
+  pub in_range : (refinement : ℕ) → refinement ≤ 4 → length quantisers ≡ 64 → first_bad_quantiser quantisers ≡ None
+      → first_outside Whole refinement values ≡ None → InRange values quantisers
   in_range refinement level tabled sound inside =
       record { tabled = tabled; valued = all_small Whole refinement values level inside; quantised = quantiser_small quantisers sound }

@@ -8,8 +8,7 @@ ghost use Rattle.transform_rules.specs.Zigzag.{zigzag_order};
 ghost use Rattle.transform_rules.specs.Picture.{times_quantiser, dequantised, centre, picture, InRange};
 ghost use Rattle.transform_rules.specs.Call.{is_quantiser, first_bad_quantiser, inverse_transform};
 
-use answers::{Answer, Outcome};
-use laws::Found;
+use answers::{Answer, Refusal};
 use levels::Part;
 
 // The zigzag index of row v, column u at 8v + u (T.81, Figure 5).
@@ -113,17 +112,17 @@ fn is_quantiser(entry: u16) -> bool
 }
 
 // The first index whose quantiser is not 1 to 255.
-pub fn first_bad_quantiser(quantisers: &[u16]) -> Found
+pub fn first_bad_quantiser(quantisers: &[u16]) -> Option<usize>
     ensures { result ≡ first_bad_quantiser quantisers.now }
 {
     let mut i = 0;
     while i < quantisers.len() {
         if !is_quantiser(quantisers[i]) {
-            return Found::At(i);
+            return Some(i);
         }
         i += 1;
     }
-    Found::Nothing
+    None
 }
 
 // The call before a refusal's zeros.
@@ -133,7 +132,7 @@ fn try_inverse_transform(
     values: &[i32],
     quantisers: &[u16],
     destination: &mut [i32],
-) -> Outcome
+) -> Result<usize, Refusal>
     ensures { Tried (pos 0) (inverse_transform refinement blocks values.now quantisers.now (length destination.old))
         destination.old destination.new result }
 {
@@ -151,19 +150,19 @@ fn try_inverse_transform(
         return answers::refuse(21, 0);
     }
     let bad = first_bad_quantiser(quantisers);
-    if let Found::At(index) = bad {
+    if let Some(index) = bad {
         return answers::refuse(22, index);
     }
     let level = refinement as usize;
     let outside = levels::first_outside(Part::Whole, level, values);
-    if let Found::At(index) = outside {
+    if let Some(index) = outside {
         return answers::refuse(11, index);
     }
     if destination.len() < count {
         return answers::refuse(9, count);
     }
     transform_picture(level, blocks, values, quantisers, destination);
-    Outcome::Given(count)
+    Ok(count)
 }
 
 // Dequantising and the inverse transform of a picture's blocks, R being the refinement.
@@ -178,8 +177,8 @@ pub fn inverse_transform(
         destination.old destination.new result }
 {
     let outcome = try_inverse_transform(refinement, blocks, values, quantisers, destination);
-    if let Outcome::Refused(_) = outcome {
-        answers::clear_i32(destination);
+    if let Err(_) = outcome {
+        answers::clear(destination, 0);
         return answers::answer_of(outcome);
     }
     answers::answer_of(outcome)

@@ -11,7 +11,7 @@ use lib.Dec.{leb, leb→le}
 use lib.IntN.{ℤ, pos, nat_abs}
 use lib.ListN.{length, get_or, get_or-eq_default}
 use Rattle.laws.specs.Index.{tab}
-use Rattle.laws.specs.declared.Found.TheVariants.{Nothing}
+use Rattle.std.specs.Prelude.{None}
 use Rattle.laws.proofs.First.{first_none}
 use Rattle.laws.proofs.Integers.{abs_prod_le, split}
 use Rattle.laws.proofs.Lists.{length_tab, get_or_tab, join_length, each, every_first, every_rest}
@@ -36,7 +36,7 @@ pub zigzag_below : (v u : ℕ) → v < 8 → u < 8 → zigzag v u < 64
 unfolding zigzag_at
 zigzag_below v u hv hu = rw (digits_div v hu, digits_mod v hu) at (zigzag_small (v * 8 + u) (omega arith))
 
-pub quantiser_small : (quantisers : List ℕ) → first_bad_quantiser quantisers ≡ Nothing → (k : ℕ) → get_or quantisers k 0 ≤ 255
+pub quantiser_small : (quantisers : List ℕ) → first_bad_quantiser quantisers ≡ None → (k : ℕ) → get_or quantisers k 0 ≤ 255
 unfolding first_bad_quantiser is_quantiser
 quantiser_small quantisers sound k =
     let q = get_or quantisers k 0 in

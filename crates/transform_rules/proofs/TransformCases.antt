@@ -7,7 +7,7 @@ use lib.IntN.{ℤ, pos, negsuc}
 use lib.ListN.{get_or, replicate}
 use Rattle.laws.specs.Index.{sum_to, tab, join_to, every}
 use Rattle.laws.specs.First.{first_fail, or_here}
-use Rattle.laws.specs.declared.Found.TheVariants.{At, Nothing}
+use Rattle.std.specs.Prelude.{Some, None}
 use Rattle.answers.specs.Verdict.{given, refused, refusal}
 use Rattle.levels.specs.Level.{in_level, is_dc, inside, first_outside}
 use Rattle.transform_rules.specs.Cosines.{nine_cosines, half_turn, full_turn, kernel}
@@ -73,7 +73,7 @@ pub quantiser_edges : map is_quantiser (0 ∷ 1 ∷ 255 ∷ 256 ∷ []) ≡ fals
 unfolding is_quantiser every
 quantiser_edges = refl
 
-pub quantiser_first : map first_bad_quantiser ((1 ∷ 255 ∷ 256 ∷ []) ∷ (1 ∷ 0 ∷ 256 ∷ []) ∷ (1 ∷ 255 ∷ []) ∷ []) ≡ At 2 ∷ At 1 ∷ Nothing ∷ []
+pub quantiser_first : map first_bad_quantiser ((1 ∷ 255 ∷ 256 ∷ []) ∷ (1 ∷ 0 ∷ 256 ∷ []) ∷ (1 ∷ 255 ∷ []) ∷ []) ≡ Some 2 ∷ Some 1 ∷ None ∷ []
 unfolding first_bad_quantiser is_quantiser first_fail or_here every
 quantiser_first = refl
 

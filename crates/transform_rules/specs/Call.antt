@@ -1,8 +1,7 @@
 -- T1 to T4: the verdict of the call, "Transform: 20, 21, 22, 11, 9".
-use Rattle.std.specs.Prelude.{Bool, List, [], ◌∷◌, ℕ, ◌*◌, leb, eqb, ℤ, length, get_or}
+use Rattle.std.specs.Prelude.{Bool, List, [], ◌∷◌, ℕ, ◌*◌, leb, eqb, ℤ, length, get_or, Option}
 use Rattle.laws.specs.Index.{every}
 use Rattle.laws.specs.First.{first_fail}
-use Rattle.laws.specs.declared.Found.{Found}
 use Rattle.answers.specs.Verdict.{Verdict, need, unless, fitting}
 use Rattle.levels.specs.Level.{first_outside}
 use Rattle.levels.specs.declared.Part.TheVariants.{Whole}
@@ -13,7 +12,7 @@ unfoldable pub is_quantiser : ℕ → Bool
 is_quantiser entry = every (leb 1 entry ∷ leb entry 255 ∷ [])
 
 -- T3: 22, "first index"
-unfoldable pub first_bad_quantiser : List ℕ → Found
+unfoldable pub first_bad_quantiser : List ℕ → Option ℕ
 first_bad_quantiser quantisers = first_fail (length quantisers) (λ i. is_quantiser (get_or quantisers i 0))
 
 -- N9, T1, T2, T4: "Rh and Rr .. 0 to 4", "0 to 1,024 blocks a call"; "64 a block for the transform", "64 lent numbers"; the values are at level R

@@ -2,7 +2,8 @@
 use mathlib.Core.Path.{◌≡◌, refl, sym, ap, subst}
 use mathlib.Core.Bool.{Bool, true, false, cond}
 use mathlib.Core.List.{List, [], ◌∷◌, ◌++◌, map}
-use mathlib.Core.Option.{Option, none, some, none-ne-some, some-injective}
+use Rattle.std.specs.Prelude.{Option, Some, None}
+use Rattle.std.proofs.lemmas.Option.{none-some, same_Some}
 use Prim.Native.Nat.{ℕ, zero, suc, ◌+◌, ◌-◌, ◌*◌, ◌/◌, ◌%◌, ◌^◌, ◌≤◌, ◌<◌}
 use native.Mathlib.Nat.{pow-suc, div-eq_of_lt}
 use native.Mathlib.Omega.{arith}
@@ -10,8 +11,6 @@ use lib.Dec.{ltb}
 use lib.IntN.{ℤ, pos, negsuc, neg_ℤ}
 use lib.ListN.{length, length-map}
 use borrow.Author.Tests.{ltb-true, ltb-false, lt-ltb, le-leb}
-use Rattle.laws.specs.declared.Found.{Found}
-use Rattle.laws.specs.declared.Found.TheVariants.{At, Nothing}
 use Rattle.bit_rules.specs.Digits.{bin, odd, digits}
 use Rattle.bit_rules.specs.Source.{Source, got, take_bit}
 use Rattle.bit_rules.specs.Gives.{Gives}
@@ -43,16 +42,16 @@ tokens_split T s (raw v ∷ a) b u h = let r = tokens_split T h.0 a b u h.2 in (
 
 -- bits that spell tokens, none of which the table lacks, give them
 module _ (T : Table) (good : good_table T ≡ true) where
-  pub spelled_gives : (ws : List Token) (s u : Source) → lacking T ws ≡ Nothing → Gives s (spelled T ws) u → GivesTokens T s ws u
+  pub spelled_gives : (ws : List Token) (s u : Source) → lacking T ws ≡ None → Gives s (spelled T ws) u → GivesTokens T s ws u
   unfolding spelled lacking
   spelled_gives [] s u m g = g
   spelled_gives (raw b ∷ ws) s u m g = (g.0, g.1, spelled_gives ws g.0 u m g.2)
   spelled_gives (code v ∷ ws) s u m g = go (place_of v T.values) refl m (λ t n h. spelled_gives ws t u n h)
     where
-      go : (f : Found) → place_of v T.values ≡ f → or_else v f (lacking T ws) ≡ Nothing → ((t : Source) → lacking T ws ≡ Nothing → Gives t (spelled T ws) u → GivesTokens T t ws u)
+      go : (f : Option ℕ) → place_of v T.values ≡ f → or_else v f (lacking T ws) ≡ None → ((t : Source) → lacking T ws ≡ None → Gives t (spelled T ws) u → GivesTokens T t ws u)
           → GivesTokens T s (code v ∷ ws) u
-      go Nothing e m ih = let z : ◌≡◌ {A = ℕ} 0 1 = cc in absurd (omega arith)
-      go (At k) e m ih =
+      go None e m ih = let z : ◌≡◌ {A = ℕ} 0 1 = cc in absurd (omega arith)
+      go (Some k) e m ih =
           let r = gives_split s (word T v) (spelled T ws) u g in
           (r.0, code_trip T v k s r.0 good e r.1, ih r.0 m r.2)
 
@@ -67,13 +66,13 @@ Agrees t (fresh b) = at_zero t ≡ unit b
 half_two : (n : ℕ) → suc (suc n) / 2 ≡ suc (n / 2)
 half_two n = omega arith
 
-kept_pos : (t : Task) (n : ℕ) (s u : Source) → take_bit s ≡ got (odd n) u → position t (pos (suc (suc n) / 2)) s ≡ got (pos (suc (suc n)), some t) u
+kept_pos : (t : Task) (n : ℕ) (s u : Source) → take_bit s ≡ got (odd n) u → position t (pos (suc (suc n) / 2)) s ≡ got (pos (suc (suc n)), Some t) u
 unfolding position
 kept_pos t n s u e =
     let q : 2 * suc (n / 2) + bin (odd n) ≡ suc (suc n) = omega (arith, bin_odd n) in
     rw (half_two n, e, q)
 
-kept_neg : (t : Task) (n : ℕ) (s u : Source) → take_bit s ≡ got (odd n) u → position t (neg_ℤ (pos (suc (suc n) / 2))) s ≡ got (negsuc (suc n), some t) u
+kept_neg : (t : Task) (n : ℕ) (s u : Source) → take_bit s ≡ got (odd n) u → position t (neg_ℤ (pos (suc (suc n) / 2))) s ≡ got (negsuc (suc n), Some t) u
 unfolding position
 kept_neg t n s u e =
     let q : 2 * (n / 2) + 1 + bin (odd n) ≡ suc n = omega (arith, bin_odd n) in
@@ -91,37 +90,37 @@ position_back T t (negsuc (suc n)) s u a h = let m = rw (kind_down n) at h in rw
 
 abbrev Fits : (Option Task → Type 0) → Option Task → List Kind → Type 0
 Fits End o [] = End o
-Fits End none (x ∷ kinds) = Unit {0}
-Fits End (some t) (x ∷ kinds) = Agrees t x × Fits End (after t x) kinds
+Fits End None (x ∷ kinds) = Unit {0}
+Fits End (Some t) (x ∷ kinds) = Agrees t x × Fits End (after t x) kinds
 
 -- what the end of a block asks of the later ones
 abbrev MayEnd : List (List Kind) → Option Task → Type 0
-MayEnd later none = Unit {0}
-MayEnd later (some (ended n)) = n ≤ quiet later
-MayEnd later (some (walk n sign)) = ⊥
+MayEnd later None = Unit {0}
+MayEnd later (Some (ended n)) = n ≤ quiet later
+MayEnd later (Some (walk n sign)) = ⊥
 
-fits_none : (kinds : List Kind) (later : List (List Kind)) → Fits (MayEnd later) none kinds
+fits_none : (kinds : List Kind) (later : List (List Kind)) → Fits (MayEnd later) None kinds
 fits_none [] later = tt
 fits_none (x ∷ kinds) later = tt
 
-never : {p : ℕ × Bool} → ◌≡◌ {A = Option (ℕ × Bool)} none (some p) → ⊥
-never {p} e = none-ne-some p e
+never : {p : ℕ × Bool} → ◌≡◌ {A = Option (ℕ × Bool)} None (Some p) → ⊥
+never {p} e = none-some p e
 
-same : {p q : ℕ × Bool} → ◌≡◌ {A = Option (ℕ × Bool)} (some p) (some q) → p ≡ q
-same {p} {q} e = some-injective p q e
+same : {p q : ℕ × Bool} → ◌≡◌ {A = Option (ℕ × Bool)} (Some p) (Some q) → p ≡ q
+same {p} {q} e = same_Some p q e
 
-more_none : (o : Option (ℕ × Bool)) → one_more o ≡ none → o ≡ none
+more_none : (o : Option (ℕ × Bool)) → one_more o ≡ None → o ≡ None
 unfolding one_more
-more_none none e = refl
-more_none (some p) e = absurd (never (sym e))
+more_none None e = refl
+more_none (Some p) e = absurd (never (sym e))
 
-more_some : (o : Option (ℕ × Bool)) (p : ℕ × Bool) → one_more o ≡ some p → (q : ℕ × Bool) × (o ≡ some q) × (p ≡ (suc q.0, q.1))
+more_some : (o : Option (ℕ × Bool)) (p : ℕ × Bool) → one_more o ≡ Some p → (q : ℕ × Bool) × (o ≡ Some q) × (p ≡ (suc q.0, q.1))
 unfolding one_more
-more_some none p e = absurd (never e)
-more_some (some q) p e = (q, refl, sym (same e))
+more_some None p e = absurd (never e)
+more_some (Some q) p e = (q, refl, sym (same e))
 
 -- an end run, where no new value is ahead
-calm : (kinds : List Kind) (later : List (List Kind)) (n : ℕ) → ahead kinds ≡ none → n ≤ quiet later → Fits (MayEnd later) (some (ended n)) kinds
+calm : (kinds : List Kind) (later : List (List Kind)) (n : ℕ) → ahead kinds ≡ None → n ≤ quiet later → Fits (MayEnd later) (Some (ended n)) kinds
 unfolding ahead
 calm [] later n e h = h
 calm (keep b ∷ kinds) later n e h = (tt, calm kinds later n e h)
@@ -130,9 +129,9 @@ calm (fresh b ∷ kinds) later n e h = absurd (never (sym e))
 
 -- a walk to the next new value
 abbrev To : (Option Task → Type 0) → List Kind → ℕ × Bool → Type 0
-To End kinds p = Fits End (some (walk p.0 (some p.1))) kinds
+To End kinds p = Fits End (Some (walk p.0 (Some p.1))) kinds
 
-aim : (kinds : List Kind) (later : List (List Kind)) (p : ℕ × Bool) → ahead kinds ≡ some p → To (MayEnd later) kinds p
+aim : (kinds : List Kind) (later : List (List Kind)) (p : ℕ × Bool) → ahead kinds ≡ Some p → To (MayEnd later) kinds p
 unfolding ahead
 aim [] later p e = absurd (never e)
 aim (keep b ∷ kinds) later p e = (tt, aim kinds later p e)
@@ -142,7 +141,7 @@ aim (still ∷ kinds) later p e =
 aim (fresh b ∷ kinds) later p e = subst (λ q. To (MayEnd later) (fresh b ∷ kinds) q) (same e) (refl, fits_none kinds later)
 
 -- a walk over zeros that are all before the next new value
-long : (kinds : List Kind) (later : List (List Kind)) (p : ℕ × Bool) (n : ℕ) → ahead kinds ≡ some p → n < p.0 → Fits (MayEnd later) (some (walk n none)) kinds
+long : (kinds : List Kind) (later : List (List Kind)) (p : ℕ × Bool) (n : ℕ) → ahead kinds ≡ Some p → n < p.0 → Fits (MayEnd later) (Some (walk n None)) kinds
 unfolding ahead
 long [] later p n e h = absurd (never e)
 long (keep b ∷ kinds) later p n e h = (tt, long kinds later p n e h)
@@ -152,17 +151,17 @@ long (still ∷ kinds) later p (suc n) e h =
     (refl, long kinds later r.0 n r.1 (omega (arith, ap (λ (q : ℕ × Bool). q.0) r.2)))
 long (fresh b ∷ kinds) later p n e h = absurd (omega (arith, ap (λ (q : ℕ × Bool). q.0) (same e)))
 
-plan_fits : (kinds : List Kind) (later : List (List Kind)) → Fits (MayEnd later) (some (plan kinds later)) kinds
+plan_fits : (kinds : List Kind) (later : List (List Kind)) → Fits (MayEnd later) (Some (plan kinds later)) kinds
 unfolding plan
 plan_fits kinds later = go (ahead kinds) refl
   where
-    near : (p : ℕ × Bool) → ahead kinds ≡ some p → (b : Bool) → ltb p.0 16 ≡ b → Fits (MayEnd later) (some (cond b (walk p.0 (some p.1)) (walk 15 none))) kinds
+    near : (p : ℕ × Bool) → ahead kinds ≡ Some p → (b : Bool) → ltb p.0 16 ≡ b → Fits (MayEnd later) (Some (cond b (walk p.0 (Some p.1)) (walk 15 None))) kinds
     near p e true q = aim kinds later p e
     near p e false q = long kinds later p 15 e (ltb-false p.0 16 q)
 
-    go : (o : Option (ℕ × Bool)) → ahead kinds ≡ o → Fits (MayEnd later) (some (planned o (quiet later))) kinds
-    go none e = calm kinds later (quiet later) e (omega arith)
-    go (some p) e = near p e (ltb p.0 16) refl
+    go : (o : Option (ℕ × Bool)) → ahead kinds ≡ o → Fits (MayEnd later) (Some (planned o (quiet later))) kinds
+    go None e = calm kinds later (quiet later) e (omega arith)
+    go (Some p) e = near p e (ltb p.0 16) refl
 
 -- ---- a code and what follows it
 
@@ -196,8 +195,8 @@ order_power (suc most) n h k = go (ltb n 2) refl (λ g. order_power most (n / 2)
 
 -- a task that a code can tell, with so many blocks left
 abbrev Tellable : ℕ → Task → Type 0
-Tellable left (walk n none) = n ≡ 15
-Tellable left (walk n (some b)) = n < 16
+Tellable left (walk n None) = n ≡ 15
+Tellable left (walk n (Some b)) = n < 16
 Tellable left (ended n) = (n < left) × (left < 2 ^ 15)
 
 run_back : (T : Table) (left n : ℕ) (s u : Source) → Tellable left (ended n) → GivesTokens T s (map raw (digits (class (suc n)) (suc n - 2 ^ class (suc n)))) u
@@ -211,13 +210,13 @@ run_back T left n s u g h =
     let v : 2 ^ r + e ≡ suc n = omega arith in
     rw (number_back T r 0 e s u (sym z) h, v, le-leb (suc n) left g.0) (ap (λ (k : ℕ). got (ended k) u) (omega arith))
 
-task_back : (T : Table) (left : ℕ) (t : Task) (s u : Source) → Tellable left t → GivesTokens T s (emit t) u → task_at T left none s ≡ got t u
+task_back : (T : Table) (left : ℕ) (t : Task) (s u : Source) → Tellable left t → GivesTokens T s (emit t) u → task_at T left None s ≡ got t u
 unfolding task_at meaning emit
-task_back T left (walk n none) s u g h =
+task_back T left (walk n None) s u g h =
     let d : 16 * n / 16 ≡ 15 = omega arith in
     let m : 16 * n % 16 ≡ 0 = omega arith in
     rw (h.1, d, m, g, h.2)
-task_back T left (walk n (some b)) s u g h =
+task_back T left (walk n (Some b)) s u g h =
     let d : (16 * n + 1) / 16 ≡ n = omega arith in
     let m : (16 * n + 1) % 16 ≡ 1 = omega arith in
     rw (h.1, d, m, h.2.1, h.2.2)
@@ -234,20 +233,20 @@ quiet_most [] = omega arith
 quiet_most (b ∷ bs) = go (ahead b) (quiet_most bs)
   where
     go : (o : Option (ℕ × Bool)) → quiet bs ≤ length bs → unless_new o (quiet bs) ≤ suc (length bs)
-    go none h = omega arith
-    go (some p) h = omega arith
+    go None h = omega arith
+    go (Some p) h = omega arith
 
 plan_tellable : (kinds : List Kind) (later : List (List Kind)) (left : ℕ) → quiet later < left → left < 2 ^ 15 → Tellable left (plan kinds later)
 unfolding plan
 plan_tellable kinds later left h k = go (ahead kinds)
   where
-    near : (p : ℕ × Bool) (b : Bool) → ltb p.0 16 ≡ b → Tellable left (cond b (walk p.0 (some p.1)) (walk 15 none))
+    near : (p : ℕ × Bool) (b : Bool) → ltb p.0 16 ≡ b → Tellable left (cond b (walk p.0 (Some p.1)) (walk 15 None))
     near p true q = ltb-true p.0 16 q
     near p false q = refl
 
     go : (o : Option (ℕ × Bool)) → Tellable left (planned o (quiet later))
-    go none = (h, k)
-    go (some p) = near p (ltb p.0 16) refl
+    go None = (h, k)
+    go (Some p) = near p (ltb p.0 16) refl
 
 -- ---- a block
 
@@ -255,13 +254,13 @@ module _ (T : Table) (left : ℕ) (later : List (List Kind)) (fit : quiet later 
   block_back : (values : List ℤ) (o : Option Task) (s u : Source) → Fits (MayEnd later) o (map kind_of values) → GivesTokens T s (write_block o (map kind_of values) later).0 u
       → ac_block T left o (map ac_half values) s ≡ got (values, (write_block o (map kind_of values) later).1) u
   unfolding ac_block block_end task_at write_block
-  block_back [] none s u f h = rw h
-  block_back [] (some (walk n sign)) s u f h = absurd f
-  block_back [] (some (ended n)) s u f h = rw h
-  block_back (x ∷ values) (some t) s u f h =
+  block_back [] None s u f h = rw h
+  block_back [] (Some (walk n sign)) s u f h = absurd f
+  block_back [] (Some (ended n)) s u f h = rw h
+  block_back (x ∷ values) (Some t) s u f h =
       let a = tokens_split T s (mark (kind_of x)) (write_block (after t (kind_of x)) (map kind_of values) later).0 u h in
       rw (position_back T t x s a.0 f.0 a.1, block_back values (after t (kind_of x)) a.0 u f.1 a.2)
-  block_back (x ∷ values) none s u f h =
+  block_back (x ∷ values) None s u f h =
       let t : Task = plan (kind_of x ∷ map kind_of values) later in
       let g = plan_fits (kind_of x ∷ map kind_of values) later in
       let e = tokens_split T s (emit t) (mark (kind_of x) ++ (write_block (after t (kind_of x)) (map kind_of values) later).0) u h in
@@ -272,28 +271,28 @@ module _ (T : Table) (left : ℕ) (later : List (List Kind)) (fit : quiet later 
 
 -- what the beginning of a block asks of it and the later ones
 abbrev pub MayBegin : List (List Kind) → Option Task → Type 0
-MayBegin later none = Unit {0}
-MayBegin later (some (ended n)) = n < quiet later
-MayBegin later (some (walk n sign)) = ⊥
+MayBegin later None = Unit {0}
+MayBegin later (Some (ended n)) = n < quiet later
+MayBegin later (Some (walk n sign)) = ⊥
 
 block_begins : (kinds : List Kind) (later : List (List Kind)) (o : Option Task) → Fits (MayEnd later) o kinds → MayBegin later (write_block o kinds later).1
 unfolding write_block
-block_begins [] later none f = tt
-block_begins [] later (some (walk n sign)) f = absurd f
-block_begins [] later (some (ended zero)) f = tt
-block_begins [] later (some (ended (suc n))) f = f
-block_begins (x ∷ kinds) later (some t) f = block_begins kinds later (after t x) f.1
-block_begins (x ∷ kinds) later none f = block_begins kinds later (after (plan (x ∷ kinds) later) x) (plan_fits (x ∷ kinds) later).1
+block_begins [] later None f = tt
+block_begins [] later (Some (walk n sign)) f = absurd f
+block_begins [] later (Some (ended zero)) f = tt
+block_begins [] later (Some (ended (suc n))) f = f
+block_begins (x ∷ kinds) later (Some t) f = block_begins kinds later (after t x) f.1
+block_begins (x ∷ kinds) later None f = block_begins kinds later (after (plan (x ∷ kinds) later) x) (plan_fits (x ∷ kinds) later).1
 
 enter : (b : List Kind) (bs : List (List Kind)) (o : Option Task) → MayBegin (b ∷ bs) o → Fits (MayEnd bs) o b
 unfolding quiet
-enter b bs none h = fits_none b bs
-enter b bs (some (walk n sign)) h = absurd h
-enter b bs (some (ended n)) h = go (ahead b) refl h
+enter b bs None h = fits_none b bs
+enter b bs (Some (walk n sign)) h = absurd h
+enter b bs (Some (ended n)) h = go (ahead b) refl h
   where
-    go : (o : Option (ℕ × Bool)) → ahead b ≡ o → n < unless_new o (quiet bs) → Fits (MayEnd bs) (some (ended n)) b
-    go none e k = calm b bs n e (omega arith)
-    go (some p) e k = absurd (omega arith)
+    go : (o : Option (ℕ × Bool)) → ahead b ≡ o → n < unless_new o (quiet bs) → Fits (MayEnd bs) (Some (ended n)) b
+    go None e k = calm b bs n e (omega arith)
+    go (Some p) e k = absurd (omega arith)
 
 unfoldable pub joined : List (List ℤ) → List ℤ
 joined [] = []

@@ -2,7 +2,7 @@
 use mathlib.Core.Path.{◌≡◌, refl, sym, ap, ◌∙◌}
 use mathlib.Core.Bool.{true}
 use mathlib.Core.List.{List, [], ◌∷◌, map}
-use mathlib.Core.Option.{none}
+use Rattle.std.specs.Prelude.{None}
 use Prim.Native.Nat.{ℕ, zero, suc, ◌-◌, ◌*◌, ◌/◌, ◌^◌, ◌≤◌, ◌<◌}
 use native.Mathlib.Omega.{arith}
 use lib.Dec.{eqb}
@@ -10,7 +10,6 @@ use lib.IntN.{ℤ, pos, negsuc, neg_ℤ}
 use lib.ListN.{length, take, drop, length-map, length-drop, take-append-drop}
 use borrow.Author.Tests.{le-leb, eqb-true, eq-eqb}
 use Rattle.laws.specs.Index.{every}
-use Rattle.laws.specs.declared.Found.TheVariants.{Nothing}
 use Rattle.laws.proofs.Integers.{abs_neg}
 use Rattle.answers.specs.Verdict.{given}
 use Rattle.answers.proofs.Given.{need_given, unless_given, fitting_given_same, fits}
@@ -81,8 +80,8 @@ ac_halving = record { whole = whole; again = again; lower = lower }
     lower level i (negsuc n) e = rw (abs_neg (pos (suc n / 2))) (half_in level (suc n) e)
 
 -- the bytes that the rules give for a plane, with a table that lacks no code of it, read over the halves, give the values
-pub ac_trip : (plane blocks : ℕ) (T : Table) (values : List ℤ) (space : ℕ) → every (readable plane blocks) ≡ true → length values ≡ 63 * blocks → good_table T ≡ true → first_outside Ac plane values ≡ Nothing
-    → lacking T (tokens blocks values) ≡ Nothing → 63 * blocks ≤ space → read_ac plane blocks T (map ac_half values) (ac_bytes blocks T values) space ≡ given values
+pub ac_trip : (plane blocks : ℕ) (T : Table) (values : List ℤ) (space : ℕ) → every (readable plane blocks) ≡ true → length values ≡ 63 * blocks → good_table T ≡ true → first_outside Ac plane values ≡ None
+    → lacking T (tokens blocks values) ≡ None → 63 * blocks ≤ space → read_ac plane blocks T (map ac_half values) (ac_bytes blocks T values) space ≡ given values
 unfolding read_ac tokens
 ac_trip plane blocks T values space ranges count good inside codes h =
     let p = ranged plane blocks ranges in
@@ -90,9 +89,9 @@ ac_trip plane blocks T values space ranges count good inside codes h =
     let s : Source = start (ac_bytes blocks T values) in
     let says = (bytes_say (spelled T ws)).from s (refl, refl) in
     let u : Source = says.1 in
-    let b : ac_blocks T 0 none (map (map ac_half) (cut blocks values)) s ≡ read (joined (cut blocks values)) u =
-    blocks_back T 0 (cut blocks values) none s u tt (omega (arith, length_cut blocks values, p.few)) (spelled_gives T good ws s u codes says.3) in
-    let c : closed (ac_blocks T 0 none (cut blocks (map ac_half values)) s) ≡ given values =
+    let b : ac_blocks T 0 None (map (map ac_half) (cut blocks values)) s ≡ read (joined (cut blocks values)) u =
+    blocks_back T 0 (cut blocks values) None s u tt (omega (arith, length_cut blocks values, p.few)) (spelled_gives T good ws s u codes says.3) in
+    let c : closed (ac_blocks T 0 None (cut blocks (map ac_half values)) s) ≡ given values =
     rw (cut_map ac_half blocks values) (closed_well values u _ (padding_left u says.0 says.4) (b ∙ ap (λ (l : List ℤ). read l u) (joined_cut blocks values count))) in
     let l : eqb (length (map ac_half values)) (63 * blocks) ≡ true = eq-eqb (length (map ac_half values)) (63 * blocks) (length-map values ac_half ∙ count) in
     rw (ranges, l, good, halves_inside ac_halving plane values p.low inside, le-leb (63 * blocks) space h) c
@@ -113,9 +112,9 @@ ac_accepted writer plane blocks T values room space bytes w h =
 
 -- ---- the AC half of demand 3: k planes on the full values divided by 2^k
 
-module _ (k blocks : ℕ) (few : k ≤ 4) (many : blocks ≤ 1024) (full : List ℤ) (count : length full ≡ 63 * blocks) (range : first_outside Ac k full ≡ Nothing) where
+module _ (k blocks : ℕ) (few : k ≤ 4) (many : blocks ≤ 1024) (full : List ℤ) (count : length full ≡ 63 * blocks) (range : first_outside Ac k full ≡ None) where
   -- each plane is accepted by a writer of its level, with a table that holds every code needed
-  module _ (T : Table) (j : ℕ) (l : j < k) (table : good_table T ≡ true) (codes : lacking T (tokens blocks (at_level toward_zero k full (suc j))) ≡ Nothing) where
+  module _ (T : Table) (j : ℕ) (l : j < k) (table : good_table T ≡ true) (codes : lacking T (tokens blocks (at_level toward_zero k full (suc j))) ≡ None) where
     pub ac_written_lem : (writer : Writer) (room : ℕ) → writable writer (suc j) ≡ true → length (ac_bytes blocks T (at_level toward_zero k full (suc j))) ≤ room
         → written_ac writer (suc j) blocks T (at_level toward_zero k full (suc j)) room ≡ given (ac_bytes blocks T (at_level toward_zero k full (suc j)))
     unfolding written_ac

@@ -3,7 +3,7 @@ use mathlib.Core.Path.{◌≡◌, ap}
 use mathlib.Core.Logic.{◌⊎◌, inl, inr}
 use mathlib.Core.Bool.{Bool}
 use mathlib.Core.List.{List, [], ◌∷◌}
-use mathlib.Core.Option.{Option, none, some}
+use Rattle.std.specs.Prelude.{Option, Some, None}
 use Prim.Native.Nat.{ℕ, zero, suc, ◌+◌, ◌-◌, ◌*◌, ◌/◌, ◌%◌, ◌^◌, ◌≤◌, ◌<◌}
 use native.Mathlib.Omega.{arith}
 use lib.Dec.{ltb, leb}
@@ -67,14 +67,14 @@ module _ (bytes : List ℕ) (k : ℕ) (C E : Type 0) where
   meaning_law left r (suc zero) = also bytes k C E (then_first bytes k C E bit_first λ b. give _)
   meaning_law left r (suc (suc s)) = fail_law bytes k C E 15 (omega arith)
 
-  task_first : (T : Table) (left : ℕ) → 0 < length T.counts → F (task_at T left none)
+  task_first : (T : Table) (left : ℕ) → 0 < length T.counts → F (task_at T left None)
   unfolding task_at take_code
   task_first T left h = then_first bytes k C E (code_first T.counts T.values 0 h) λ v. meaning_law left (v / 16) (v % 16)
 
   task_law : (T : Table) (left : ℕ) → 0 < length T.counts → (o : Option Task) → L (task_at T left o)
   unfolding task_at
-  task_law T left h (some t) = give t
-  task_law T left h none = also bytes k C E (task_first T left h)
+  task_law T left h (Some t) = give t
+  task_law T left h None = also bytes k C E (task_first T left h)
 
   position_law : (t : Task) (c : ℤ) → L (position t c)
   unfolding position
@@ -86,9 +86,9 @@ module _ (bytes : List ℕ) (k : ℕ) (C E : Type 0) where
 
   end_law : (o : Option Task) → L (block_end o)
   unfolding block_end
-  end_law none = give _
-  end_law (some (ended n)) = give _
-  end_law (some (walk n sign)) = fail_law bytes k C E 16 (omega arith)
+  end_law None = give _
+  end_law (Some (ended n)) = give _
+  end_law (Some (walk n sign)) = fail_law bytes k C E 16 (omega arith)
 
   module _ (T : Table) (left : ℕ) (h : 0 < length T.counts) where
     pub block_law : (o : Option Task) (values : List ℤ) → L (ac_block T left o values)
@@ -97,7 +97,7 @@ module _ (bytes : List ℕ) (k : ℕ) (C E : Type 0) where
     block_law o (c ∷ values) =
         then_law bytes k C E (task_law T left h o) λ t. then_law bytes k C E (position_law t c) λ x. then_law bytes k C E (block_law x.1 values) λ r. give _
 
-    pub block_first : (c : ℤ) (values : List ℤ) → F (ac_block T left none (c ∷ values))
+    pub block_first : (c : ℤ) (values : List ℤ) → F (ac_block T left None (c ∷ values))
     unfolding ac_block
     block_first c values =
         then_first bytes k C E (task_first T left h) λ t. then_law bytes k C E (position_law t c) λ x. then_law bytes k C E (block_law x.1 values) λ r. give _

@@ -10,7 +10,7 @@ use lib.Dec.{eqb, ltb}
 use lib.ListN.{length, get_or, drop}
 use lib.Seq.{get_or-drop}
 use borrow.Author.Tests.{ltb-true, ltb-false, lt-ltb, le-ltb, eqb-true, not-false}
-use Rattle.laws.specs.declared.Found.TheVariants.{At}
+use Rattle.std.specs.Prelude.{Some}
 use Rattle.laws.proofs.First.{first_at}
 use Rattle.bit_rules.specs.Digits.{bin, odd, digits}
 use Rattle.bit_rules.specs.Source.{Source, source, got}
@@ -97,14 +97,14 @@ located (n ∷ ns) g size k h = go (ltb k n) refl (λ l. located ns (2 * g + n) 
         (suc r.0, r.1, (l, r.2), r.3 ∙ ap (λ (x : ℕ). digits x r.1) z)
 
 -- where a value stands
-pub placed : (v : ℕ) (vs : List ℕ) (k : ℕ) → place_of v vs ≡ At k → (k < length vs) × (get_or vs k 0 ≡ v)
+pub placed : (v : ℕ) (vs : List ℕ) (k : ℕ) → place_of v vs ≡ Some k → (k < length vs) × (get_or vs k 0 ≡ v)
 unfolding place_of
 placed v vs k e =
     let r = first_at (length vs) (λ i. not (eqb (get_or vs i 0) v)) e in
     (r.0, eqb-true (get_or vs k 0) v (not-false (eqb (get_or vs k 0) v) r.1))
 
 -- a code that was put is read back as its value
-pub code_trip : (T : Table) (v k : ℕ) (s u : Source) → good_table T ≡ true → place_of v T.values ≡ At k → Gives s (word T v) u → take_code T s ≡ got v u
+pub code_trip : (T : Table) (v k : ℕ) (s u : Source) → good_table T ≡ true → place_of v T.values ≡ Some k → Gives s (word T v) u → take_code T s ≡ got v u
 unfolding take_code word
 code_trip T v k s u g e f =
     let t = good T g in
@@ -117,7 +117,7 @@ code_trip T v k s u g e f =
     code_read T.counts T.values 0 0 k a.0 a.1 s u a.2 c (rw (a.3, z) at f') ∙ ap (λ (x : ℕ). got x u) w.1
 
 -- K4: no code begins another
-pub prefix_free : (T : Table) (v w k j : ℕ) (rest : List Bool) → good_table T ≡ true → place_of v T.values ≡ At k → place_of w T.values ≡ At j
+pub prefix_free : (T : Table) (v w k j : ℕ) (rest : List Bool) → good_table T ≡ true → place_of v T.values ≡ Some k → place_of w T.values ≡ Some j
     → word T w ≡ word T v ++ rest → v ≡ w
 prefix_free T v w k j rest g p q e =
     let s : Source = source (word T w) [] 0 0 in

@@ -2,7 +2,7 @@
 use mathlib.Core.Path.{◌≡◌, refl, sym, ap, ◌∙◌}
 use mathlib.Core.Bool.{Bool, true, false, not}
 use mathlib.Core.List.{List, [], ◌∷◌, map}
-use mathlib.Core.Option.{some}
+use Rattle.std.specs.Prelude.{Some, None}
 use Prim.Native.Nat.{ℕ, suc, ◌+◌, ◌-◌, ◌*◌, ◌/◌, ◌%◌, ◌≤◌, ◌<◌}
 use native.Mathlib.Omega.{arith}
 use lib.Dec.{eqb, ltb}
@@ -10,7 +10,6 @@ use lib.IntN.{ℤ, pos, negsuc}
 use lib.ListN.{length, length-map}
 use borrow.Author.Tests.{lt-ltb, le-leb, eqb-true, eq-eqb}
 use Rattle.laws.specs.Index.{every}
-use Rattle.laws.specs.declared.Found.TheVariants.{Nothing}
 use Rattle.answers.specs.Verdict.{given}
 use Rattle.answers.proofs.Given.{need_given, unless_given, fitting_given_same, fits}
 use Rattle.levels.specs.Level.{in_level, is_dc, first_outside}
@@ -81,7 +80,7 @@ blocks_back [] block s u g = rw g
 blocks_back (x ∷ values) block s u g = rw (g.1, blocks_back values (suc block) g.0 u g.2, new_back x)
 
 -- the bytes that the rules give for a plane, read over the halves, give the values
-pub dc_trip : (plane blocks : ℕ) (values : List ℤ) (space : ℕ) → every (readable plane blocks) ≡ true → length values ≡ blocks → first_outside Dc plane values ≡ Nothing → blocks ≤ space
+pub dc_trip : (plane blocks : ℕ) (values : List ℤ) (space : ℕ) → every (readable plane blocks) ≡ true → length values ≡ blocks → first_outside Dc plane values ≡ None → blocks ≤ space
     → read_dc plane blocks (map dc_half values) (dc_bytes values) space ≡ given values
 unfolding read_dc
 dc_trip plane blocks values space ranges count inside h =
@@ -107,7 +106,7 @@ dc_accepted writer plane blocks values room space bytes w h =
 
 -- ---- the DC half of demand 3: k planes on the full values divided by 2^k
 
-module _ (k blocks : ℕ) (few : k ≤ 4) (many : blocks ≤ 1024) (full : List ℤ) (count : length full ≡ blocks) (range : first_outside Dc k full ≡ Nothing) where
+module _ (k blocks : ℕ) (few : k ≤ 4) (many : blocks ≤ 1024) (full : List ℤ) (count : length full ≡ blocks) (range : first_outside Dc k full ≡ None) where
   abbrev pub dc_plane : ℕ → List ℕ
   dc_plane j = dc_bytes (at_level downward k full j)
 
@@ -130,7 +129,7 @@ module _ (k blocks : ℕ) (few : k ≤ 4) (many : blocks ≤ 1024) (full : List 
 
   -- after the first j planes each value is the full one divided by 2^(k-j), downward
   pub dc_climbed : (space : ℕ) → blocks ≤ space → (j : ℕ) → j ≤ k
-      → climb (λ i values. accepted (read_dc i blocks values (dc_plane i) space)) j (at_level downward k full 0) ≡ some (at_level downward k full j)
+      → climb (λ i values. accepted (read_dc i blocks values (dc_plane i) space)) j (at_level downward k full 0) ≡ Some (at_level downward k full j)
   dc_climbed space h =
       climbed (λ i values. accepted (read_dc i blocks values (dc_plane i) space)) (at_level downward k full) k
       (λ j l. rw (dc_read_lem j space l h))

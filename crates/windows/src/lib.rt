@@ -1,23 +1,12 @@
 // Windows of sequence numbers: where each packet of a window stands, and the smallest number that is missing (7, docs/RULES.md, P8).
 #![tactic(auto)]
 
-ghost use Rattle.std.specs.Prelude.{◌≡◌, min, ◌+◌, ◌≤◌, ◌<◌, length, get_or, replicate, ltb};
+ghost use Rattle.std.specs.Prelude.{◌≡◌, min, ◌+◌, ◌≤◌, ◌<◌, length, get_or, ltb};
 ghost use Rattle.laws.specs.First.{first_fail};
 ghost use Rattle.box_rules.specs.Numbers.{numbers_from, missing_from};
 ghost use Rattle.windows.specs.Code.{Located, marked};
 
-use laws::Found;
-use packets::Next;
-
-fn clear_places(places: &mut [usize])
-    ensures { places.new ≡ replicate (length places.old) 0 }
-{
-    let mut i = 0;
-    while i < places.len() {
-        places[i] = 0;
-        i += 1;
-    }
-}
+use packets::Mine;
 
 // Notes a position for a number, if it is one of the window's.
 fn mark(places: &mut [usize], passed: usize, number: usize, at: usize)
@@ -36,19 +25,21 @@ fn mark(places: &mut [usize], passed: usize, number: usize, at: usize)
 pub fn locate(file: &[u8], kind: u32, instance: u16, passed: usize, places: &mut [usize])
     ensures { Located file.now kind instance passed places.new }
 {
-    clear_places(places);
+    answers::clear(places, 0);
     let mut at: usize = 2;
     loop {
         match packets::next_mine(file, kind, instance, at) {
-            Next::Gone => {
+            None => {
                 return;
             }
-            Next::Mine {
-                head,
-                start: _,
-                len: _,
-                next,
-            } => {
+            Some(
+                Mine {
+                    head,
+                    start: _,
+                    len: _,
+                    next,
+                },
+            ) => {
                 mark(places, passed, head.number as usize, at);
                 at = next;
             }
@@ -63,22 +54,28 @@ pub fn lesser(a: usize, b: usize) -> usize
 }
 
 // The first of k places that is 0.
-fn first_gone(places: &[usize], k: usize) -> Found
+fn first_gone(places: &[usize], k: usize) -> Option<usize>
     requires { k ≤ length places.now }
     ensures { result ≡ first_fail k (λ i. ltb 0 (get_or places.now i 0)) }
 {
     let mut i: usize = 0;
     while i < k {
         if places[i] == 0 {
-            return Found::At(i);
+            return Some(i);
         }
         i += 1;
     }
-    Found::Nothing
+    None
 }
 
 // The smallest of 1 to n that is missing, with an array that takes the places of a window.
-fn missing_by(file: &[u8], kind: u32, instance: u16, n: usize, places: &mut [usize]) -> Found
+fn missing_by(
+    file: &[u8],
+    kind: u32,
+    instance: u16,
+    n: usize,
+    places: &mut [usize],
+) -> Option<usize>
     requires { 0 < length places.old }
     ensures { result ≡ missing_from n 1 (numbers_from file.now kind instance 2) }
 {
@@ -87,19 +84,19 @@ fn missing_by(file: &[u8], kind: u32, instance: u16, n: usize, places: &mut [usi
         locate(file, kind, instance, passed, places);
         let k = lesser(n - passed, places.len());
         match first_gone(places, k) {
-            Found::At(i) => {
-                return Found::At(passed + 1 + i);
+            Some(i) => {
+                return Some(passed + 1 + i);
             }
-            Found::Nothing => {
+            None => {
                 passed += k;
             }
         }
     }
-    Found::Nothing
+    None
 }
 
 // The smallest of 1 to n that is missing.
-pub fn first_missing(file: &[u8], kind: u32, instance: u16, n: usize) -> Found
+pub fn first_missing(file: &[u8], kind: u32, instance: u16, n: usize) -> Option<usize>
     ensures { result ≡ missing_from n 1 (numbers_from file.now kind instance 2) }
 {
     let mut places = [0usize; 16384];

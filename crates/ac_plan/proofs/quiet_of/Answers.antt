@@ -19,8 +19,8 @@ block_at later n =
 pub loop-n-init : goal.loop-n-init
 loop-n-init c = passed_none _ _
 
-pub returns-in-Value : goal.returns-in-Value
-returns-in-Value c = passed_new c.loop-n.invariant _ c.loop-n-test.true refl (c.ahead_of.ensures ∙ block_at c.args.later.now c.loop-n.n) c.in-Value.is
+pub returns-in-Some : goal.returns-in-Some
+returns-in-Some c = passed_new c.loop-n.invariant _ c.loop-n-test.true refl (c.ahead_of.ensures ∙ block_at c.args.later.now c.loop-n.n) c.in-Some.is
 
 pub loop-n-preserved : goal.loop-n-preserved
 loop-n-preserved c = passed_one c.loop-n.invariant _ c.loop-n-test.true refl (c.ahead_of.ensures ∙ block_at c.args.later.now c.loop-n.n) c.in_default.is

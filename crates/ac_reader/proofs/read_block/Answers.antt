@@ -1,6 +1,6 @@
 -- `ac_reader::read_block` meets its contract: what is left to read, behind the values read so far, is the whole. Assumes nothing.
 use mathlib.Core.Path.{sym, ap, ◌∙◌}
-use mathlib.Core.Option.{some}
+use Rattle.std.specs.Prelude.{Some}
 use Rattle.bit_rules.specs.Table.{table}
 use Rattle.ac_tasks.specs.Code.{task_of, open_of, asked_of, block_of}
 use Rattle.ac_steps.specs.Code.{At}
@@ -20,7 +20,7 @@ do_job-went-requires c = record { small = c.requires.small; destination_len = (c
 
 pub returns-in-Out : goal.returns-in-Out
 unfolding asked_of
-returns-in-Out c = let opened : At c.args.«data».now (table c.args.counts.now c.args.codes.now) c.args.left c.args.values.now c.loop-i.destination (open_of c.args.first) (some (task_of c.in-Task.job)) c.args.c c.in-Task.here c.loop-i.i = at_asked c.loop-i.invariant c.loop-i-test.true (sym c.task_at-asked.ensures ∙ ap (asked_of _) c.in-Task.is) in
+returns-in-Out c = let opened : At c.args.«data».now (table c.args.counts.now c.args.codes.now) c.args.left c.args.values.now c.loop-i.destination (open_of c.args.first) (Some (task_of c.in-Task.job)) c.args.c c.in-Task.here c.loop-i.i = at_asked c.loop-i.invariant c.loop-i-test.true (sym c.task_at-asked.ensures ∙ ap (asked_of _) c.in-Task.is) in
     let s = rw c.in-Out.is at c.do_job-went.ensures in
     s.same _ _ _ _ (opened)
 
@@ -30,7 +30,7 @@ loop-i-smaller c = let s = rw c.in-On.is at c.do_job-went.ensures in
 
 pub loop-i-preserved : goal.loop-i-preserved
 unfolding asked_of
-loop-i-preserved c = let opened : At c.args.«data».now (table c.args.counts.now c.args.codes.now) c.args.left c.args.values.now c.loop-i.destination (open_of c.args.first) (some (task_of c.in-Task.job)) c.args.c c.in-Task.here c.loop-i.i = at_asked c.loop-i.invariant c.loop-i-test.true (sym c.task_at-asked.ensures ∙ ap (asked_of _) c.in-Task.is) in
+loop-i-preserved c = let opened : At c.args.«data».now (table c.args.counts.now c.args.codes.now) c.args.left c.args.values.now c.loop-i.destination (open_of c.args.first) (Some (task_of c.in-Task.job)) c.args.c c.in-Task.here c.loop-i.i = at_asked c.loop-i.invariant c.loop-i-test.true (sym c.task_at-asked.ensures ∙ ap (asked_of _) c.in-Task.is) in
     let s = rw c.in-On.is at c.do_job-went.ensures in
     s.0.same _ _ _ _ (opened)
 

@@ -4,14 +4,14 @@ use Rattle.ac_tasks.specs.Code.{task_of}
 use Rattle.ac_tasks.proofs.Tasks.{ends_none, ends_walk, ends_run}
 use Rattle.ac_tasks.proofs.block_end.Goals as goal
 
-pub returns-in-Nothing : goal.returns-in-Nothing
-returns-in-Nothing c = ends_none c.in-Nothing.is
+pub returns-in-None : goal.returns-in-None
+returns-in-None c = ends_none c.in-None.is
 
 pub returns-in-Leave : goal.returns-in-Leave
-returns-in-Leave c = ends_walk c.in-Doing.is (ap task_of c.in-Leave.is)
+returns-in-Leave c = ends_walk c.in-Some.is (ap task_of c.in-Leave.is)
 
 pub returns-in-Set : goal.returns-in-Set
-returns-in-Set c = ends_walk c.in-Doing.is (ap task_of c.in-Set.is)
+returns-in-Set c = ends_walk c.in-Some.is (ap task_of c.in-Set.is)
 
 pub returns-in-Ended : goal.returns-in-Ended
-returns-in-Ended c = ends_run c.in-Doing.is c.in-Ended.is c.over_job.ensures
+returns-in-Ended c = ends_run c.in-Some.is c.in-Ended.is c.over_job.ensures

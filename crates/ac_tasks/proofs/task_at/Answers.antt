@@ -5,14 +5,14 @@ use Rattle.plane_rules.specs.AcRead.{task_at}
 use Rattle.ac_tasks.specs.Code.{asked_of}
 use Rattle.ac_tasks.proofs.task_at.Goals as goal
 
-pub returns-in-Doing : goal.returns-in-Doing
+pub returns-in-Some : goal.returns-in-Some
 unfolding task_at asked_of
-returns-in-Doing c = rw c.in-Doing.is
+returns-in-Some c = rw c.in-Some.is
 
 pub returns-in-Value : goal.returns-in-Value
 unfolding task_at coded_of
-returns-in-Value c = rw (c.in-Nothing.is, sym c.take_code-t.ensures ∙ ap (coded_of _) c.in-Value.is) c.meaning.ensures
+returns-in-Value c = rw (c.in-None.is, sym c.take_code-t.ensures ∙ ap (coded_of _) c.in-Value.is) c.meaning.ensures
 
 pub returns-in-Stopped : goal.returns-in-Stopped
 unfolding task_at asked_of coded_of
-returns-in-Stopped c = rw (c.in-Nothing.is, sym c.take_code-t.ensures ∙ ap (coded_of _) c.in-Stopped.is)
+returns-in-Stopped c = rw (c.in-None.is, sym c.take_code-t.ensures ∙ ap (coded_of _) c.in-Stopped.is)

@@ -8,8 +8,8 @@ plan-job-requires c = c.requires.later_len
 pub emit-told-requires : goal.emit-told-requires
 emit-told-requires c = record { pen_ready = c.requires.pen_ready; known = (c.requires.known, c.plan-job.ensures.short) }
 
-pub returns-in-Doing : goal.returns-in-Doing
-returns-in-Doing c = λ T k. begins_open _ _ c.in-Doing.is c.requires.pen_ready.sound
+pub returns-in-Some : goal.returns-in-Some
+returns-in-Some c = λ T k. begins_open _ _ c.in-Some.is c.requires.pen_ready.sound
 
-pub returns-in-Nothing : goal.returns-in-Nothing
-returns-in-Nothing c = λ T k. begins_need _ _ c.in-Nothing.is c.plan-job.ensures (c.emit-told.ensures T k)
+pub returns-in-None : goal.returns-in-None
+returns-in-None c = λ T k. begins_need _ _ c.in-None.is c.plan-job.ensures (c.emit-told.ensures T k)

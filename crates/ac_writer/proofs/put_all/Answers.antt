@@ -11,8 +11,8 @@ use Rattle.ac_writer.proofs.put_all.Goals as goal
 pub put_blocks-pen-requires : goal.put_blocks-pen-requires
 put_blocks-pen-requires c = c.requires
 
-pub returns-in-At : goal.returns-in-At
-returns-in-At c = tried_refused c.refuse.ensures (rw (sym c.put_blocks-pen.ensures.lack ∙ c.in-At.is))
+pub returns-in-Some : goal.returns-in-Some
+returns-in-Some c = tried_refused c.refuse.ensures (rw (sym c.put_blocks-pen.ensures.lack ∙ c.in-Some.is))
 
 pub put_end-count-requires : goal.put_end-count-requires
 put_end-count-requires c = record {

@@ -1,6 +1,6 @@
 -- What the loops of `ac_writer::rest` keep, and what goes down.
 use mathlib.Core.Path.{◌≡◌}
-use mathlib.Core.Option.{some}
+use Rattle.std.specs.Prelude.{Some}
 use Prim.Native.Nat.{ℕ, ◌-◌, ◌≤◌}
 use lib.ListN.{length}
 use Rattle.plane_rules.specs.Task as task
@@ -8,7 +8,7 @@ use Rattle.ac_writer.specs.Code.{Carries}
 use Rattle.ac_writer.proofs.rest.Given as goal
 
 abbrev pub invariant-loop-i : goal.invariant-loop-i
-invariant-loop-i l = (length l.destination ≡ length l.initial.destination) × (l.from ≤ l.i) × (l.i ≤ length l.block) × ((n : ℕ) → Carries l.initial.destination l.destination l.initial.q l.q l.block (some (task.ended n)) (some (task.ended n)) l.from l.i)
+invariant-loop-i l = (length l.destination ≡ length l.initial.destination) × (l.from ≤ l.i) × (l.i ≤ length l.block) × ((n : ℕ) → Carries l.initial.destination l.destination l.initial.q l.q l.block (Some (task.ended n)) (Some (task.ended n)) l.from l.i)
 
 abbrev pub decreases-loop-i : goal.decreases-loop-i
 decreases-loop-i l = length l.block - l.i

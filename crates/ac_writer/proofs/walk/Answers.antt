@@ -1,6 +1,6 @@
 -- `ac_writer::walk` meets its contract: the bits put so far and what is left of the block are the block. Assumes nothing.
 use mathlib.Core.Path.{◌≡◌, refl, ◌∙◌}
-use mathlib.Core.Option.{none}
+use Rattle.std.specs.Prelude.{None}
 use lib.IntN.{pos}
 use lib.ListN.{get_or}
 use mir.Syntax.{w32}
@@ -15,7 +15,7 @@ pub loop-i-init : goal.loop-i-init
 loop-i-init c = (refl, omega arith, omega (arith, c.requires.from_in_bounds.0), λ sign. carries_none c.requires.sound.0)
 
 pub put_bit-q-requires : goal.put_bit-q-requires
-put_bit-q-requires c = let h = carries_near (c.loop-i.invariant.3 none) c.loop-i.invariant.2 c.requires.from_in_bounds.1 c.requires.sound.1 in record { sound = h.0; at_bound = h.1 }
+put_bit-q-requires c = let h = carries_near (c.loop-i.invariant.3 None) c.loop-i.invariant.2 c.requires.from_in_bounds.1 c.requires.sound.1 in record { sound = h.0; at_bound = h.1 }
 
 pub loop-i-preserved-in-Kept : goal.loop-i-preserved-in-Kept
 loop-i-preserved-in-Kept c = let kind : kind_is c.kind_of-change.result ≡ kind_of (get_or c.args.block.now c.loop-i.i (pos 0)) = rw (back w32 _ c.kind_of-arg-1.given) at c.kind_of-change.ensures in (

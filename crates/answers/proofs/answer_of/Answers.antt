@@ -3,8 +3,8 @@ use mathlib.Core.Path.{sym, ap}
 use Rattle.answers.specs.Verdict.{answer_of}
 use Rattle.answers.proofs.answer_of.Goals as goal
 
-pub returns-in-Given : goal.returns-in-Given
-returns-in-Given c = sym (ap answer_of c.in-Given.is)
+pub returns-in-Ok : goal.returns-in-Ok
+returns-in-Ok c = sym (ap answer_of c.in-Ok.is)
 
-pub returns-in-Refused : goal.returns-in-Refused
-returns-in-Refused c = sym (ap answer_of c.in-Refused.is)
+pub returns-in-Err : goal.returns-in-Err
+returns-in-Err c = sym (ap answer_of c.in-Err.is)

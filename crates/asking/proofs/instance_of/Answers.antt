@@ -8,14 +8,14 @@ pub returns-then-word-eq0 : goal.returns-then-word-eq0
 unfolding instance_of
 returns-then-word-eq0 c = rw (eq-eqb _ _ c.if-word-eq0.true)
 
-pub returns-in-Nothing : goal.returns-in-Nothing
+pub returns-in-None : goal.returns-in-None
 unfolding instance_of
-returns-in-Nothing c = rw (ne_eqb _ _ c.if-word-eq0.false, sym c.read_number.ensures ∙ c.in-Nothing.is)
+returns-in-None c = rw (ne_eqb _ _ c.if-word-eq0.false, sym c.read_number.ensures ∙ c.in-None.is)
 
 pub returns-then-value-le65535 : goal.returns-then-value-le65535
 unfolding instance_of
-returns-then-value-le65535 c = rw (ne_eqb _ _ c.if-word-eq0.false, sym c.read_number.ensures ∙ c.in-At.is, le-leb _ _ c.if-value-le65535.true)
+returns-then-value-le65535 c = rw (ne_eqb _ _ c.if-word-eq0.false, sym c.read_number.ensures ∙ c.in-Some.is, le-leb _ _ c.if-value-le65535.true)
 
 pub returns-else-value-le65535 : goal.returns-else-value-le65535
 unfolding instance_of
-returns-else-value-le65535 c = rw (ne_eqb _ _ c.if-word-eq0.false, sym c.read_number.ensures ∙ c.in-At.is, lt-leb _ _ c.if-value-le65535.false)
+returns-else-value-le65535 c = rw (ne_eqb _ _ c.if-word-eq0.false, sym c.read_number.ensures ∙ c.in-Some.is, lt-leb _ _ c.if-value-le65535.false)

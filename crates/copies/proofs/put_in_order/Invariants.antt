@@ -7,8 +7,8 @@ use lib.ListN.{length}
 use Prim.Native.Nat.{◌-◌}
 use Rattle.copies.proofs.put_in_order.Given as goal
 
-abbrev pub invariant-loop-destination : goal.invariant-loop-destination
-invariant-loop-destination l = Writing l.destination l.to (payloads (mine_from l.file l.kind l.instance l.at)) l.initial.destination 0 (payloads (mine_of l.file l.kind l.instance))
+abbrev pub invariant-loop-here : goal.invariant-loop-here
+invariant-loop-here l = Writing l.destination l.to (payloads (mine_from l.file l.kind l.instance l.at)) l.initial.destination 0 (payloads (mine_of l.file l.kind l.instance))
 
-abbrev pub decreases-loop-destination : goal.decreases-loop-destination
-decreases-loop-destination l = length l.file - l.at
+abbrev pub decreases-loop-here : goal.decreases-loop-here
+decreases-loop-here l = length l.file - l.at

@@ -37,10 +37,10 @@ pub first_outside-requires : goal.first_outside-requires
 first_outside-requires c = let here = goal.at.first_outside-requires c in
     let r = good here.Else-not-readable in omega arith
 
-pub returns-in-At : goal.returns-in-At
+pub returns-in-Some : goal.returns-in-Some
 unfolding read_dc
-returns-in-At c = let here = goal.at.returns-in-At c in
-    tried_refused c.refuse-in-At.ensures (rw (counts here.Else-not-readable, eq-eqb _ _ c.if-values-blocks.false, sym c.first_outside.ensures ∙ c.in-At.is))
+returns-in-Some c = let here = goal.at.returns-in-Some c in
+    tried_refused c.refuse-in-Some.ensures (rw (counts here.Else-not-readable, eq-eqb _ _ c.if-values-blocks.false, sym c.first_outside.ensures ∙ c.in-Some.is))
 
 pub returns-then-destination-blocks : goal.returns-then-destination-blocks
 unfolding read_dc

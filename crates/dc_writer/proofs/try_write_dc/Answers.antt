@@ -42,10 +42,10 @@ pub first_outside-requires : goal.first_outside-requires
 first_outside-requires c = let here = goal.at.first_outside-requires c in
     let r = good here.Else-not-readable in omega arith
 
-pub returns-in-At : goal.returns-in-At
+pub returns-in-Some : goal.returns-in-Some
 unfolding written_dc
-returns-in-At c = let here = goal.at.returns-in-At c in
-    tried_refused c.refuse-in-At.ensures (rw (counts here.Else-not-readable, level here.Else-not-writable, eq-eqb _ _ c.if-values-blocks.false, sym c.first_outside.ensures ∙ c.in-At.is))
+returns-in-Some c = let here = goal.at.returns-in-Some c in
+    tried_refused c.refuse-in-Some.ensures (rw (counts here.Else-not-readable, level here.Else-not-writable, eq-eqb _ _ c.if-values-blocks.false, sym c.first_outside.ensures ∙ c.in-Some.is))
 
 pub put_dc_bits-p-requires : goal.put_dc_bits-p-requires
 put_dc_bits-p-requires c = let here = goal.at.put_dc_bits-p-requires c in

@@ -2,8 +2,8 @@
 use Rattle.answers.proofs.Laws.{meets_given, meets_refused}
 use Rattle.dc_writer.proofs.write_dc.Goals as goal
 
-pub returns-in-Refused : goal.returns-in-Refused
-returns-in-Refused c = meets_refused c.try_write_dc-o.ensures c.in-Refused.is c.answer_of.ensures c.try_write_dc-o.auto.destination c.clear_u8.ensures
+pub returns-in-Err : goal.returns-in-Err
+returns-in-Err c = meets_refused c.try_write_dc-o.ensures c.in-Err.is c.answer_of.ensures c.try_write_dc-o.auto.destination c.clear.ensures
 
 pub returns : goal.returns
 returns c = meets_given c.try_write_dc-o.ensures c.in_default.is c.answer_of-2.ensures

@@ -8,10 +8,10 @@ pub returns-then-file-gt65536 : goal.returns-then-file-gt65536
 unfolding header
 returns-then-file-gt65536 c = rw (listing_long _ c.if-file-gt65536.true) (wrote_then c.put_text-h.ensures c.put_answer.ensures.wrote)
 
-pub returns-in-Refused : goal.returns-in-Refused
+pub returns-in-Err : goal.returns-in-Err
 unfolding header
-returns-in-Refused c = rw (listing_refused _ c.if-file-gt65536.false (sym c.walk_all.ensures ∙ c.in-Refused.is)) (wrote_then c.put_text-h.ensures c.put_answer-in-Refused.ensures.wrote)
+returns-in-Err c = rw (listing_refused _ c.if-file-gt65536.false (sym c.walk_all.ensures ∙ c.in-Err.is)) (wrote_then c.put_text-h.ensures c.put_answer-in-Err.ensures.wrote)
 
-pub returns-in-Given : goal.returns-in-Given
+pub returns-in-Ok : goal.returns-in-Ok
 unfolding header
-returns-in-Given c = rw (listing_good _ c.if-file-gt65536.false (sym c.walk_all.ensures ∙ c.in-Given.is)) (wrote_then c.put_text-h.ensures (wrote_then c.put_lines-e.ensures.wrote c.put_answer-in-Given.ensures.wrote))
+returns-in-Ok c = rw (listing_good _ c.if-file-gt65536.false (sym c.walk_all.ensures ∙ c.in-Ok.is)) (wrote_then c.put_text-h.ensures (wrote_then c.put_lines-e.ensures.wrote c.put_answer-in-Ok.ensures.wrote))

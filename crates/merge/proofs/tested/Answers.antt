@@ -55,9 +55,9 @@ pub top_of-requires : goal.top_of-requires
 top_of-requires c = let here = goal.at.top_of-requires c in
     (in_range here.Else-not-in_ranges).rb_small
 
-pub returns-in-At : goal.returns-in-At
-returns-in-At c = let here = goal.at.returns-in-At c in
-    tests_refused c.refuse-in-At.ensures (λ result l. too_large _ _ _ _ _ _ result (passed-1 here.Else-not-in_ranges) (passed-2 here.Else-not-plain) (passed-3 here.Else-not-srgb_allowed) (passed-4 here.Else-not-lengths_right) _ (searched here.After-first_large-large ∙ c.in-At.is))
+pub returns-in-Some : goal.returns-in-Some
+returns-in-Some c = let here = goal.at.returns-in-Some c in
+    tests_refused c.refuse-in-Some.ensures (λ result l. too_large _ _ _ _ _ _ result (passed-1 here.Else-not-in_ranges) (passed-2 here.Else-not-plain) (passed-3 here.Else-not-srgb_allowed) (passed-4 here.Else-not-lengths_right) _ (searched here.After-first_large-large ∙ c.in-Some.is))
 
 pub overflow_mul-count : goal.overflow_mul-count
 overflow_mul-count c = let here = goal.at.overflow_mul-count c in

@@ -4,9 +4,9 @@ use Rattle.merge_laws.proofs.Order.{picture_long}
 use Rattle.merge.proofs.Testing.{tried_tests, tried_result}
 use Rattle.merge.proofs.try_merge.Goals as goal
 
-pub returns-in-Refused : goal.returns-in-Refused
+pub returns-in-Err : goal.returns-in-Err
 unfolding merge
-returns-in-Refused c = tried_tests c.tested-o.ensures _ (picture_long _ _ _ _ _) c.in-Refused.is
+returns-in-Err c = tried_tests c.tested-o.ensures _ (picture_long _ _ _ _ _) c.in-Err.is
 
 pub fill-requires : goal.fill-requires
 fill-requires c = record { passed = c.tested-o.ensures.passed _ c.in_default.is; pixels_in_bounds = c.tested-o.ensures.fits _ c.in_default.is }

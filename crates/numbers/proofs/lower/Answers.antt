@@ -1,5 +1,5 @@
 -- `numbers::lower` meets its contract.
-use Rattle.laws.specs.declared.Found.TheVariants.{At}
+use Rattle.std.specs.Prelude.{Some}
 use Rattle.box_rules.proofs.Counts.{least_right}
 use Rattle.box_rules.specs.Numbers.{least}
 use mathlib.Core.Path.{ap}
@@ -10,14 +10,14 @@ use Rattle.numbers.proofs.lower.Goals as goal
 pub returns-then-again-eq0 : goal.returns-then-again-eq0
 returns-then-again-eq0 c = simp (eq-eqb _ _ c.if-again-eq0.true) (least_right _)
 
-pub returns-in-Nothing : goal.returns-in-Nothing
+pub returns-in-None : goal.returns-in-None
 unfolding least
-returns-in-Nothing c = rw (c.in-Nothing.is, ne_eqb _ _ c.if-again-eq0.false)
+returns-in-None c = rw (c.in-None.is, ne_eqb _ _ c.if-again-eq0.false)
 
 pub returns-then-a-q : goal.returns-then-a-q
 unfolding least
-returns-then-a-q c = rw (c.in-At.is, ne_eqb _ _ c.if-again-eq0.false) (ap At (omega arith))
+returns-then-a-q c = rw (c.in-Some.is, ne_eqb _ _ c.if-again-eq0.false) (ap Some (omega arith))
 
 pub returns-else-a-q : goal.returns-else-a-q
 unfolding least
-returns-else-a-q c = rw (c.in-At.is, ne_eqb _ _ c.if-again-eq0.false) (ap At (omega arith))
+returns-else-a-q c = rw (c.in-Some.is, ne_eqb _ _ c.if-again-eq0.false) (ap Some (omega arith))

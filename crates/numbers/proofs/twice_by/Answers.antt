@@ -14,11 +14,11 @@ window_end-hi-requires c = (c.loop-lo-test.true, c.past_all-top.ensures.upper_bo
 pub twice_in-requires : goal.twice_in-requires
 twice_in-requires c = (c.window_end-hi.ensures.lower_bound.0, omega (arith, c.window_end-hi.ensures.lower_bound, c.past_all-top.ensures.upper_bound), c.window_end-hi.ensures.instance_bound)
 
-pub returns-in-At : goal.returns-in-At
-returns-in-At c = windows_found _ _ _ c.loop-lo.invariant.0 c.twice_in.ensures c.in-At.is
+pub returns-in-Some : goal.returns-in-Some
+returns-in-Some c = windows_found _ _ _ c.loop-lo.invariant.0 c.twice_in.ensures c.in-Some.is
 
 pub loop-lo-preserved : goal.loop-lo-preserved
-loop-lo-preserved c = (windows_next _ _ _ c.loop-lo.invariant.0 c.twice_in.ensures c.in-Nothing.is, search rules)
+loop-lo-preserved c = (windows_next _ _ _ c.loop-lo.invariant.0 c.twice_in.ensures c.in-None.is, search rules)
 
 pub returns : goal.returns
 returns c = windows_end _ _ _ c.loop-lo.invariant.0 c.loop-lo-test.false c.past_all-top.ensures.by_index

@@ -3,7 +3,7 @@ use mathlib.Core.Path.{sym, ap, ◌∙◌}
 use mathlib.Core.List.{◌++◌}
 use Prim.Native.Nat.{ℕ}
 use lib.ListN.{drop}
-use Rattle.answers.specs.declared.Outcome.TheVariants.{Given}
+use Rattle.std.specs.Prelude.{Ok}
 use Rattle.answers.proofs.Laws.{tried_refused, tried_given}
 use Rattle.preview_rules.specs.Owed.{owed_block}
 use Rattle.preview_rules.proofs.Lengths.{block_long}
@@ -16,9 +16,9 @@ returns-then-left-gt4 c = tried_refused c.refuse.ensures (left_over _ _ _ c.if-l
 pub returns-then-quantisers-ne64 : goal.returns-then-quantisers-ne64
 returns-then-quantisers-ne64 c = tried_refused c.refuse-then-quantisers-ne64.ensures (miscounted _ _ _ c.if-left-gt4.false c.if-quantisers-ne64.true)
 
-pub returns-in-At : goal.returns-in-At
-returns-in-At c = tried_refused c.refuse-in-At.ensures
-    (quantiser_bad _ _ _ c.if-left-gt4.false c.if-quantisers-ne64.false (sym c.first_bad_quantiser-bad.ensures ∙ c.in-At.is))
+pub returns-in-Some : goal.returns-in-Some
+returns-in-Some c = tried_refused c.refuse-in-Some.ensures
+    (quantiser_bad _ _ _ c.if-left-gt4.false c.if-quantisers-ne64.false (sym c.first_bad_quantiser-bad.ensures ∙ c.in-Some.is))
 
 pub returns-then-destination-lt64 : goal.returns-then-destination-lt64
 returns-then-destination-lt64 c = tried_refused c.refuse-then-destination-lt64.ensures
@@ -30,6 +30,6 @@ write_block-requires c = (c.if-left-gt4.false, (quantised c.args.left c.args.qua
 pub returns : goal.returns
 returns c = let ys = owed_block c.args.left c.args.quantisers.now in
     let long = block_long c.args.left c.args.quantisers.now in
-    tried_given {ys = ys} (ap Given (sym long))
+    tried_given {ys = ys} (ap Ok (sym long))
     (all_given _ _ _ c.if-left-gt4.false c.if-quantisers-ne64.false (sym c.first_bad_quantiser-bad.ensures ∙ c.in_default.is) c.if-destination-lt64.false)
     (c.write_block.ensures ∙ ap (λ (n : ℕ). ys ++ drop n c.args.destination.now) (sym long))

@@ -4,8 +4,8 @@ use lib.ListN.{length}
 use Prim.Native.Nat.{◌-◌}
 use Rattle.scans.proofs.scan_all.Given as goal
 
-abbrev pub invariant-loop-head : goal.invariant-loop-head
-invariant-loop-head l = Passing l.file l.kind l.instance l.h l.s
+abbrev pub invariant-loop-here : goal.invariant-loop-here
+invariant-loop-here l = Passing l.file l.kind l.instance l.h l.s
 
-abbrev pub decreases-loop-head : goal.decreases-loop-head
-decreases-loop-head l = length l.file - l.s.end
+abbrev pub decreases-loop-here : goal.decreases-loop-here
+decreases-loop-here l = length l.file - l.s.end

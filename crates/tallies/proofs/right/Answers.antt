@@ -15,20 +15,20 @@ pub returns-then-a-second : goal.returns-then-a-second
 unfolding right
 returns-then-a-second c = rw (eq-eqb _ _ c.if-a-number.false, eq-eqb _ _ c.if-a-place.false, ne_eqb _ _ c.if-a-second.true)
 
-pub returns-in-At : goal.returns-in-At
+pub returns-in-Some : goal.returns-in-Some
 unfolding right nothing
-returns-in-At c = rw (
+returns-in-Some c = rw (
   eq-eqb _ _ c.if-a-number.false,
   eq-eqb _ _ c.if-a-place.false,
   eq-eqb _ _ c.if-a-second.false,
-  c.in-At.is,
+  c.in-Some.is,
 )
 
-pub returns-in-Nothing : goal.returns-in-Nothing
+pub returns-in-None : goal.returns-in-None
 unfolding right nothing
-returns-in-Nothing c = rw (
+returns-in-None c = rw (
   eq-eqb _ _ c.if-a-number.false,
   eq-eqb _ _ c.if-a-place.false,
   eq-eqb _ _ c.if-a-second.false,
-  c.in-Nothing.is,
+  c.in-None.is,
 )

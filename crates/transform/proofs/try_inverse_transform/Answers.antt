@@ -3,7 +3,7 @@ use mathlib.Core.Path.{sym, ap, ◌∙◌}
 use mathlib.Core.List.{◌++◌}
 use Prim.Native.Nat.{ℕ}
 use lib.ListN.{drop}
-use Rattle.answers.specs.declared.Outcome.TheVariants.{Given}
+use Rattle.std.specs.Prelude.{Ok}
 use Rattle.answers.proofs.Laws.{tried_refused, tried_given}
 use Rattle.transform_rules.specs.Picture.{picture}
 use Rattle.transform_rules.proofs.Lengths.{picture_length}
@@ -22,16 +22,16 @@ returns-then-values-count c = tried_refused c.refuse-then-values-count.ensures (
 pub returns-then-quantisers-ne64 : goal.returns-then-quantisers-ne64
 returns-then-quantisers-ne64 c = tried_refused c.refuse-then-quantisers-ne64.ensures (quantisers_miscounted _ _ _ _ _ c.if-refinement-gt4.false c.if-blocks-gt1024.false c.if-values-count.false c.if-quantisers-ne64.true)
 
-pub returns-in-At : goal.returns-in-At
-returns-in-At c = tried_refused c.refuse-in-At.ensures
+pub returns-in-Some : goal.returns-in-Some
+returns-in-Some c = tried_refused c.refuse-in-Some.ensures
     (quantiser_bad _ _ _ _ _ c.if-refinement-gt4.false c.if-blocks-gt1024.false c.if-values-count.false c.if-quantisers-ne64.false
-    (sym c.first_bad_quantiser-bad.ensures ∙ c.in-At.is))
+    (sym c.first_bad_quantiser-bad.ensures ∙ c.in-Some.is))
 
-pub returns-in-At-outside : goal.returns-in-At-outside
-returns-in-At-outside c = tried_refused c.refuse-in-At-outside.ensures
+pub returns-in-Some-outside : goal.returns-in-Some-outside
+returns-in-Some-outside c = tried_refused c.refuse-in-Some-outside.ensures
     (value_outside _ _ _ _ _ c.if-refinement-gt4.false c.if-blocks-gt1024.false c.if-values-count.false c.if-quantisers-ne64.false
     (sym c.first_bad_quantiser-bad.ensures ∙ c.in_default.is)
-    (sym c.first_outside-outside.ensures ∙ c.in-At-outside.is))
+    (sym c.first_outside-outside.ensures ∙ c.in-Some-outside.is))
 
 pub returns-then-destination-count : goal.returns-then-destination-count
 returns-then-destination-count c = tried_refused c.refuse-then-destination-count.ensures
@@ -54,7 +54,7 @@ transform_picture-requires c = record {
 pub returns : goal.returns
 returns c = let ys = picture c.args.refinement c.args.blocks c.args.values.now c.args.quantisers.now in
     let long = picture_length c.args.refinement c.args.blocks c.args.values.now c.args.quantisers.now in
-    tried_given {ys = ys} (ap Given (sym long))
+    tried_given {ys = ys} (ap Ok (sym long))
     (all_given _ _ _ _ _ c.if-refinement-gt4.false c.if-blocks-gt1024.false c.if-values-count.false c.if-quantisers-ne64.false
     (sym c.first_bad_quantiser-bad.ensures ∙ c.in_default.is)
     (sym c.first_outside-outside.ensures ∙ c.in_default-outside.is)

@@ -6,13 +6,13 @@ use native.Mathlib.Omega.{arith}
 use Rattle.windows.proofs.locate.Goals as goal
 
 pub loop-head-init : goal.loop-head-init
-loop-head-init c = locate_start _ _ _ _ (length c.args.places.now) c.clear_places.ensures
+loop-head-init c = locate_start _ _ _ _ (length c.args.places.now) c.clear.ensures
 
-pub returns-in-Gone : goal.returns-in-Gone
-returns-in-Gone c = locate_end c.loop-head.invariant (gone _ _ _ _ c.next_mine.ensures c.in-Gone.is)
+pub returns-in-None : goal.returns-in-None
+returns-in-None c = locate_end c.loop-head.invariant (gone _ _ _ _ c.next_mine.ensures c.in-None.is)
 
 pub loop-head-smaller : goal.loop-head-smaller
-loop-head-smaller c = let m = met _ _ _ _ c.next_mine.ensures c.in-Mine.is in omega arith
+loop-head-smaller c = let m = met _ _ _ _ c.next_mine.ensures c.in-Some.is in omega arith
 
 pub loop-head-preserved : goal.loop-head-preserved
-loop-head-preserved c = locate_turn c.loop-head.invariant (met _ _ _ _ c.next_mine.ensures c.in-Mine.is) c.mark.ensures
+loop-head-preserved c = locate_turn c.loop-head.invariant (met _ _ _ _ c.next_mine.ensures c.in-Some.is) c.mark.ensures
