@@ -70,7 +70,7 @@ module _ (file : List ℕ) (at : ℕ) where
 
 -- ---- the walk
 
-refused_one : {r : Refusal} {n p q : ℕ} → Err r ≡ Err (refusal_at n p q) → (n ≡ r.number) × (p ≡ r.place) × (q ≡ r.second)
+refused_one : {r : Refusal} {n p q : ℕ} → ◌≡◌ {A = Result ℕ Refusal} (Err r) (Err (refusal_at n p q)) → (n ≡ r.number) × (p ≡ r.place) × (q ≡ r.second)
 refused_one {r} {n} {p} {q} e = let same : r ≡ refusal_at n p q = cc in rw same (refl, refl, refl)
 
 module _ (file : List ℕ) where
