@@ -13,7 +13,7 @@ use packets::Next;
 fn within(lo: usize, hi: usize, x: usize) -> bool
     ensures { result ≡ Numbers·within lo hi x }
 {
-    if x < lo { false } else { x < hi }
+    lo <= x && x < hi
 }
 
 fn tick(n: usize, flag: bool) -> usize
@@ -28,10 +28,8 @@ fn stands_from(held: &[u32], from: usize, q: u32) -> usize
     ensures { result ≡ count q (drop from held.now) }
 {
     let mut n: usize = 0;
-    let mut i = from;
-    while i < held.len() {
+    for i in from..held.len() {
         n = tick(n, held[i] == q);
-        i += 1;
     }
     n
 }
@@ -53,12 +51,9 @@ fn lower(w: Found, q: usize, again: usize) -> Found
 fn least_twice(held: &[u32]) -> Found
     ensures { result ≡ first_twice held.now }
 {
-    let mut i: usize = 0;
     let mut w = Found::Nothing;
-    while i < held.len() {
-        let q = held[i];
-        i += 1;
-        w = lower(w, q as usize, stands_from(held, i, q));
+    for (i, &q) in held.iter().enumerate() {
+        w = lower(w, q as usize, stands_from(held, i + 1, q));
     }
     w
 }
@@ -132,6 +127,7 @@ fn window_end(file: &[u8], kind: u32, instance: u16, lo: usize, top: usize, cap:
     if count_between(file, kind, instance, lo, top) <= cap {
         return top;
     }
+    // A while: each step halves what lies between.
     let mut good = lo + 1;
     let mut bad = top;
     while good + 1 < bad {
@@ -194,6 +190,7 @@ fn twice_by(file: &[u8], kind: u32, instance: u16, held: &mut [u32]) -> Found
     ensures { result ≡ first_twice (numbers_from file.now kind instance 2) }
 {
     let top = past_all(file, kind, instance);
+    // A while: the windows are of varying width.
     let mut lo: usize = 0;
     while lo < top {
         let hi = window_end(file, kind, instance, lo, top, held.len());
