@@ -1,23 +1,13 @@
 // Windows of sequence numbers: where each packet of a window stands, and the smallest number that is missing (7, docs/RULES.md, P8).
 #![tactic(auto)]
 
-ghost use Rattle.std.specs.Prelude.{◌≡◌, min, ◌+◌, ◌≤◌, ◌<◌, length, get_or, replicate, ltb};
+ghost use Rattle.std.specs.Prelude.{◌≡◌, min, ◌+◌, ◌≤◌, ◌<◌, length, get_or, ltb};
 ghost use Rattle.laws.specs.First.{first_fail};
 ghost use Rattle.box_rules.specs.Numbers.{numbers_from, missing_from};
 ghost use Rattle.windows.specs.Code.{Located, marked};
 
 use laws::Found;
 use packets::Next;
-
-fn clear_places(places: &mut [usize])
-    ensures { places.new ≡ replicate (length places.old) 0 }
-{
-    let mut i = 0;
-    while i < places.len() {
-        places[i] = 0;
-        i += 1;
-    }
-}
 
 // Notes a position for a number, if it is one of the window's.
 fn mark(places: &mut [usize], passed: usize, number: usize, at: usize)
@@ -36,7 +26,7 @@ fn mark(places: &mut [usize], passed: usize, number: usize, at: usize)
 pub fn locate(file: &[u8], kind: u32, instance: u16, passed: usize, places: &mut [usize])
     ensures { Located file.now kind instance passed places.new }
 {
-    clear_places(places);
+    places.fill(0);
     let mut at: usize = 2;
     loop {
         match packets::next_mine(file, kind, instance, at) {
@@ -67,12 +57,10 @@ fn first_gone(places: &[usize], k: usize) -> Found
     requires { k ≤ length places.now }
     ensures { result ≡ first_fail k (λ i. ltb 0 (get_or places.now i 0)) }
 {
-    let mut i: usize = 0;
-    while i < k {
+    for i in 0..k {
         if places[i] == 0 {
             return Found::At(i);
         }
-        i += 1;
     }
     Found::Nothing
 }
@@ -82,6 +70,7 @@ fn missing_by(file: &[u8], kind: u32, instance: u16, n: usize, places: &mut [usi
     requires { 0 < length places.old }
     ensures { result ≡ missing_from n 1 (numbers_from file.now kind instance 2) }
 {
+    // A while: the windows are of varying width.
     let mut passed: usize = 0;
     while passed < n {
         locate(file, kind, instance, passed, places);
