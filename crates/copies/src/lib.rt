@@ -14,11 +14,7 @@ fn copy_part(file: &[u8], start: usize, len: usize, destination: &mut [u8], to: 
     requires { (start + len ≤ length file.now) × (to + len ≤ length destination.old) }
     ensures { destination.new ≡ put_at destination.old to (take len (drop start file.now)) }
 {
-    let mut i: usize = 0;
-    while i < len {
-        destination[to + i] = file[start + i];
-        i += 1;
-    }
+    destination[to..to + len].copy_from_slice(&file[start..start + len]);
 }
 
 // Puts the payloads at the front, in file order.
@@ -71,9 +67,8 @@ fn put_window(
         × (result ≡ to + length (joined_from k (passed + 1) (mine_of file.now kind instance))) }
 {
     windows::locate(file, kind, instance, passed, places);
-    let mut i: usize = 0;
     let mut end = to;
-    while i < k {
+    for i in 0..k {
         match packets::next_mine(file, kind, instance, places[i]) {
             Next::Gone => {
                 return end;
@@ -86,7 +81,6 @@ fn put_window(
             } => {
                 copy_part(file, start, len, destination, end);
                 end += len;
-                i += 1;
             }
         }
     }
@@ -105,6 +99,7 @@ fn put_windows(
     requires { (0 < length places.old) × Numbered (mine_of file.now kind instance) n (length destination.old) }
     ensures { destination.new ≡ put_at destination.old 0 (joined (mine_of file.now kind instance)) }
 {
+    // A while: the windows are of varying width.
     let mut passed: usize = 0;
     let mut to: usize = 0;
     while passed < n {
