@@ -49,7 +49,7 @@ pub fn locate(file: &[u8], kind: u32, instance: u16, passed: usize, places: &mut
 pub fn lesser(a: usize, b: usize) -> usize
     ensures { result ≡ min a b }
 {
-    if a < b { a } else { b }
+    a.min(b)
 }
 
 // The first of k places that is 0.
