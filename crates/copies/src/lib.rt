@@ -99,9 +99,9 @@ fn put_windows(
     requires { (0 < length places.old) × Numbered (mine_of file.now kind instance) n (length destination.old) }
     ensures { destination.new ≡ put_at destination.old 0 (joined (mine_of file.now kind instance)) }
 {
-    // A while: the windows are of varying width.
     let mut passed: usize = 0;
     let mut to: usize = 0;
+    // A while: the windows are of varying width.
     while passed < n {
         let k = windows::lesser(n - passed, places.len());
         to = put_window(file, kind, instance, passed, k, places, destination, to);

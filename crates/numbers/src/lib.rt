@@ -127,9 +127,9 @@ fn window_end(file: &[u8], kind: u32, instance: u16, lo: usize, top: usize, cap:
     if count_between(file, kind, instance, lo, top) <= cap {
         return top;
     }
-    // A while: each step halves what lies between.
     let mut good = lo + 1;
     let mut bad = top;
+    // A while: each step halves what lies between.
     while good + 1 < bad {
         let middle = good + (bad - good) / 2;
         if count_between(file, kind, instance, lo, middle) <= cap {
@@ -190,8 +190,8 @@ fn twice_by(file: &[u8], kind: u32, instance: u16, held: &mut [u32]) -> Found
     ensures { result ≡ first_twice (numbers_from file.now kind instance 2) }
 {
     let top = past_all(file, kind, instance);
-    // A while: the windows are of varying width.
     let mut lo: usize = 0;
+    // A while: the windows are of varying width.
     while lo < top {
         let hi = window_end(file, kind, instance, lo, top, held.len());
         match twice_in(file, kind, instance, lo, hi, held) {

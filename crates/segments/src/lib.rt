@@ -40,8 +40,8 @@ fn barred(b: u8) -> bool
 fn past_ones(file: &[u8], at: usize) -> usize
     ensures { result ≡ at + ones (drop at file.now) }
 {
-    // A while: the index where it stops is the answer, also where `at` lies past the end.
     let mut m = at;
+    // A while: the index where it stops is the answer, also where `at` lies past the end.
     while m < file.len() && file[m] == 255 {
         m += 1;
     }

@@ -70,8 +70,8 @@ fn missing_by(file: &[u8], kind: u32, instance: u16, n: usize, places: &mut [usi
     requires { 0 < length places.old }
     ensures { result ≡ missing_from n 1 (numbers_from file.now kind instance 2) }
 {
-    // A while: the windows are of varying width.
     let mut passed: usize = 0;
+    // A while: the windows are of varying width.
     while passed < n {
         locate(file, kind, instance, passed, places);
         let k = lesser(n - passed, places.len());
