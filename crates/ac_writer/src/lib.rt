@@ -329,7 +329,7 @@ pub fn write_ac(
 {
     let o = try_write_ac(plane, blocks, counts, codes, values, destination);
     if let Err(_) = o {
-        answers::clear(destination, 0);
+        destination.fill(0);
         return answers::answer_of(o);
     }
     answers::answer_of(o)

@@ -34,7 +34,7 @@ pub fn box_bytes(file: &[u8], kind: u32, instance: u16, destination: &mut [u8]) 
     match o {
         Ok(_) => answers::answer_of(o),
         Err(_) => {
-            answers::clear(destination, 0);
+            destination.fill(0);
             answers::answer_of(o)
         }
     }

@@ -128,7 +128,7 @@ pub fn merge_or_not(
 {
     let number = setting_number(named, s, pixels, matrix);
     if number != 0 {
-        answers::clear(destination, 0);
+        destination.fill(0);
         return answers::Answer {
             number,
             place: 0,

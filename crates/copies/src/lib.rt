@@ -14,11 +14,7 @@ fn copy_part(file: &[u8], start: usize, len: usize, destination: &mut [u8], to: 
     requires { (start + len ≤ length file.now) × (to + len ≤ length destination.old) }
     ensures { destination.new ≡ put_at destination.old to (take len (drop start file.now)) }
 {
-    let mut i: usize = 0;
-    while i < len {
-        destination[to + i] = file[start + i];
-        i += 1;
-    }
+    destination[to..to + len].copy_from_slice(&file[start..start + len]);
 }
 
 // Puts the payloads at the front, in file order.
@@ -72,9 +68,8 @@ fn put_window(
         × (result ≡ to + length (joined_from k (passed + 1) (mine_of file.now kind instance))) }
 {
     windows::locate(file, kind, instance, passed, places);
-    let mut i: usize = 0;
     let mut end = to;
-    while i < k {
+    for i in 0..k {
         match packets::next_mine(file, kind, instance, places[i]) {
             None => {
                 return end;
@@ -89,7 +84,6 @@ fn put_window(
             ) => {
                 copy_part(file, start, len, destination, end);
                 end += len;
-                i += 1;
             }
         }
     }
@@ -110,6 +104,7 @@ fn put_windows(
 {
     let mut passed: usize = 0;
     let mut to: usize = 0;
+    // A while: the windows are of varying width.
     while passed < n {
         let k = windows::lesser(n - passed, places.len());
         to = put_window(file, kind, instance, passed, k, places, destination, to);

@@ -92,7 +92,7 @@ pub fn read_dc(
 {
     let o = try_read_dc(plane, blocks, data, values, destination);
     if let Err(_) = o {
-        answers::clear(destination, 0);
+        destination.fill(0);
         return answers::answer_of(o);
     }
     answers::answer_of(o)

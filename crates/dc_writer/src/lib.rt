@@ -73,7 +73,7 @@ pub fn write_dc(plane: u32, blocks: usize, values: &[i32], destination: &mut [u8
 {
     let o = try_write_dc(plane, blocks, values, destination);
     if let Err(_) = o {
-        answers::clear(destination, 0);
+        destination.fill(0);
         return answers::answer_of(o);
     }
     answers::answer_of(o)

@@ -19,7 +19,6 @@ fn put(out: &mut [u8], at: usize, b: u8) -> usize
 {
     if at < out.len() {
         out[at] = b;
-        return at + 1;
     }
     at + 1
 }
@@ -29,11 +28,9 @@ fn put_text(out: &mut [u8], at: usize, text: &[u8]) -> usize
     requires { at + length text.now < 4611686018427387904 }
     ensures { Wrote out.old out.new at result text.now }
 {
-    let mut i: usize = 0;
     let mut to = at;
-    while i < text.len() {
-        to = put(out, to, text[i]);
-        i += 1;
+    for &b in text {
+        to = put(out, to, b);
     }
     to
 }
@@ -176,7 +173,7 @@ pub fn list_packets(file: &[u8], text: &mut [u8]) -> Answer
     match o {
         Ok(_) => answers::answer_of(o),
         Err(_) => {
-            answers::clear(text, 0);
+            text.fill(0);
             answers::answer_of(o)
         }
     }

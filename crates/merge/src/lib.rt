@@ -76,7 +76,7 @@ pub fn merge(
     match tried {
         Ok(_) => answers::answer_of(tried),
         Err(_) => {
-            answers::clear(destination, 0);
+            destination.fill(0);
             answers::answer_of(tried)
         }
     }

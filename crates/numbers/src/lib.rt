@@ -12,7 +12,7 @@ use packets::Mine;
 fn within(lo: usize, hi: usize, x: usize) -> bool
     ensures { result ≡ Numbers·within lo hi x }
 {
-    if x < lo { false } else { x < hi }
+    lo <= x && x < hi
 }
 
 fn tick(n: usize, flag: bool) -> usize
@@ -27,10 +27,8 @@ fn stands_from(held: &[u32], from: usize, q: u32) -> usize
     ensures { result ≡ count q (drop from held.now) }
 {
     let mut n: usize = 0;
-    let mut i = from;
-    while i < held.len() {
+    for i in from..held.len() {
         n = tick(n, held[i] == q);
-        i += 1;
     }
     n
 }
@@ -52,12 +50,9 @@ fn lower(w: Option<usize>, q: usize, again: usize) -> Option<usize>
 fn least_twice(held: &[u32]) -> Option<usize>
     ensures { result ≡ first_twice held.now }
 {
-    let mut i: usize = 0;
     let mut w = None;
-    while i < held.len() {
-        let q = held[i];
-        i += 1;
-        w = lower(w, q as usize, stands_from(held, i, q));
+    for (i, &q) in held.iter().enumerate() {
+        w = lower(w, q as usize, stands_from(held, i + 1, q));
     }
     w
 }
@@ -73,12 +68,14 @@ fn count_between(file: &[u8], kind: u32, instance: u16, lo: usize, hi: usize) ->
             None => {
                 return n;
             }
-            Some(Mine {
-                head,
-                start: _,
-                len: _,
-                next,
-            }) => {
+            Some(
+                Mine {
+                    head,
+                    start: _,
+                    len: _,
+                    next,
+                },
+            ) => {
                 n = tick(n, within(lo, hi, head.number as usize));
                 at = next;
             }
@@ -109,12 +106,14 @@ fn past_all(file: &[u8], kind: u32, instance: u16) -> usize
             None => {
                 return m;
             }
-            Some(Mine {
-                head,
-                start: _,
-                len: _,
-                next,
-            }) => {
+            Some(
+                Mine {
+                    head,
+                    start: _,
+                    len: _,
+                    next,
+                },
+            ) => {
                 m = past(m, head.number);
                 at = next;
             }
@@ -133,6 +132,7 @@ fn window_end(file: &[u8], kind: u32, instance: u16, lo: usize, top: usize, cap:
     }
     let mut good = lo + 1;
     let mut bad = top;
+    // A while: each step halves what lies between.
     while good + 1 < bad {
         let middle = good + (bad - good) / 2;
         if count_between(file, kind, instance, lo, middle) <= cap {
@@ -156,12 +156,14 @@ fn gather(file: &[u8], kind: u32, instance: u16, lo: usize, hi: usize, held: &mu
             None => {
                 return k;
             }
-            Some(Mine {
-                head,
-                start: _,
-                len: _,
-                next,
-            }) => {
+            Some(
+                Mine {
+                    head,
+                    start: _,
+                    len: _,
+                    next,
+                },
+            ) => {
                 let number = head.number;
                 if within(lo, hi, number as usize) {
                     held[k] = number;
@@ -174,7 +176,14 @@ fn gather(file: &[u8], kind: u32, instance: u16, lo: usize, hi: usize, held: &mu
 }
 
 // The smallest number of a window that stands twice.
-fn twice_in(file: &[u8], kind: u32, instance: u16, lo: usize, hi: usize, held: &mut [u32]) -> Option<usize>
+fn twice_in(
+    file: &[u8],
+    kind: u32,
+    instance: u16,
+    lo: usize,
+    hi: usize,
+    held: &mut [u32],
+) -> Option<usize>
     requires { (lo < hi) × (hi ≤ 4294967296) × ((hi ≡ lo + 1 → ⊥) → between lo hi (numbers_from file.now kind instance 2) ≤ length held.old) }
     ensures { TwiceIn lo hi (numbers_from file.now kind instance 2) result }
 {
@@ -194,6 +203,7 @@ fn twice_by(file: &[u8], kind: u32, instance: u16, held: &mut [u32]) -> Option<u
 {
     let top = past_all(file, kind, instance);
     let mut lo: usize = 0;
+    // A while: the windows are of varying width.
     while lo < top {
         let hi = window_end(file, kind, instance, lo, top, held.len());
         match twice_in(file, kind, instance, lo, hi, held) {

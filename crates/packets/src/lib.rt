@@ -24,16 +24,7 @@ fn marked_here(file: &[u8], at: usize) -> bool
     requires { at + 19 < length file.now }
     ensures { result ≡ true → Tagged file.now at }
 {
-    if file[at] != 255 {
-        return false;
-    }
-    if file[at + 1] != 235 {
-        return false;
-    }
-    if file[at + 4] != 74 {
-        return false;
-    }
-    file[at + 5] == 80
+    file[at] == 255 && file[at + 1] == 235 && file[at + 4] == 74 && file[at + 5] == 80
 }
 
 // A quick look at the usual case: the length of the segment where a whole packet in the short form begins at a position with no fill. None says nothing.
@@ -50,7 +41,7 @@ fn packet_here(file: &[u8], at: usize) -> Option<usize>
     if !marked_here(file, at) {
         return None;
     }
-    let size = segments::be16(file, at + 2) as usize;
+    let size = usize::from(segments::be16(file, at + 2));
     if size < 18 {
         return None;
     }
@@ -111,11 +102,7 @@ fn begins(file: &[u8]) -> bool
     if file.len() < 2 {
         return false;
     }
-    if file[0] == 255 {
-        file[1] == 216
-    } else {
-        false
-    }
+    file[0] == 255 && file[1] == 216
 }
 
 // How the walk over a file ends, from a position on.
@@ -143,11 +130,7 @@ pub fn walk_all(file: &[u8]) -> Result<usize, Refusal>
 fn is_mine(kind: u32, instance: u16, head: Head) -> bool
     ensures { result ≡ is_mine kind instance head }
 {
-    if head.kind == kind {
-        head.instance == instance
-    } else {
-        false
-    }
+    head.kind == kind && head.instance == instance
 }
 
 // The same quick look for a packet of a type and instance.

@@ -199,7 +199,7 @@ pub fn preview_owes(left: u32, quantisers: &[u16], destination: &mut [u32]) -> A
 {
     let outcome = try_preview_owes(left, quantisers, destination);
     if let Err(_) = outcome {
-        answers::clear(destination, 0);
+        destination.fill(0);
         return answers::answer_of(outcome);
     }
     answers::answer_of(outcome)

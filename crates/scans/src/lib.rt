@@ -36,18 +36,14 @@ fn alike(flag: bool, h: Head, g: Head) -> bool
     if !flag {
         return false;
     }
-    if g.stated == h.stated {
-        g.heading == h.heading
-    } else {
-        false
-    }
+    g.stated == h.stated && g.heading == h.heading
 }
 
 // The flag, and the test.
 fn both(flag: bool, test: bool) -> bool
     ensures { result ≡ cond flag test false }
 {
-    if flag { test } else { false }
+    flag && test
 }
 
 // What a pass has found behind one packet more.

@@ -9,43 +9,31 @@ ghost use Rattle.answers.specs.Verdict.{refusal};
 use answers::Refusal;
 use box_rules::{Head, Step};
 
-fn wide(x: u8) -> u16
-    ensures { (result ≡ x) × (result < 256) }
-{
-    x as u16
-}
-
 pub fn be16(file: &[u8], i: usize) -> u16
     requires { i + 1 < length file.now }
     ensures { result ≡ Walk·be16 file.now i }
 {
-    wide(file[i]) * 256 + wide(file[i + 1])
+    u16::from(file[i]) * 256 + u16::from(file[i + 1])
 }
 
 pub fn be32(file: &[u8], i: usize) -> u32
     requires { i + 3 < length file.now }
     ensures { result ≡ Walk·be32 file.now i }
 {
-    (be16(file, i) as u32) * 65536 + (be16(file, i + 2) as u32)
+    u32::from(be16(file, i)) * 65536 + u32::from(be16(file, i + 2))
 }
 
 fn be64(file: &[u8], i: usize) -> u64
     requires { i + 7 < length file.now }
     ensures { result ≡ Walk·be64 file.now i }
 {
-    (be32(file, i) as u64) * 4294967296 + (be32(file, i + 4) as u64)
+    u64::from(be32(file, i)) * 4294967296 + u64::from(be32(file, i + 4))
 }
 
 fn barred(b: u8) -> bool
     ensures { result ≡ Walk·barred b }
 {
-    if b < 2 {
-        return true;
-    }
-    if b < 208 {
-        return false;
-    }
-    b <= 217
+    b < 2 || (208 <= b && b <= 217)
 }
 
 // Where the run of FF that begins at `at` ends.
@@ -53,10 +41,8 @@ fn past_ones(file: &[u8], at: usize) -> usize
     ensures { result ≡ at + ones (drop at file.now) }
 {
     let mut m = at;
-    while m < file.len() {
-        if file[m] != 255 {
-            return m;
-        }
+    // A while: the index where it stops is the answer, also where `at` lies past the end.
+    while m < file.len() && file[m] == 255 {
         m += 1;
     }
     m
@@ -70,11 +56,7 @@ fn tagged(file: &[u8], m: usize, len: usize) -> bool
     if len < 4 {
         return false;
     }
-    if file[m + 3] == 74 {
-        file[m + 4] == 80
-    } else {
-        false
-    }
+    file[m + 3] == 74 && file[m + 4] == 80
 }
 
 // What the head of the packet behind the marker at m states.
@@ -85,7 +67,7 @@ pub fn head_at(file: &[u8], m: usize) -> Head
     Head {
         instance: be16(file, m + 5),
         number: be32(file, m + 7),
-        stated: be32(file, m + 11) as u64,
+        stated: u64::from(be32(file, m + 11)),
         heading: 8,
         kind: be32(file, m + 15),
     }
@@ -168,7 +150,7 @@ fn sized_at(file: &[u8], at: usize, m: usize) -> Step
     if file.len() < m + 3 {
         return broken(2, at);
     }
-    let len = be16(file, m + 1) as usize;
+    let len = usize::from(be16(file, m + 1));
     if len < 2 {
         return broken(2, at);
     }

@@ -178,7 +178,7 @@ pub fn inverse_transform(
 {
     let outcome = try_inverse_transform(refinement, blocks, values, quantisers, destination);
     if let Err(_) = outcome {
-        answers::clear(destination, 0);
+        destination.fill(0);
         return answers::answer_of(outcome);
     }
     answers::answer_of(outcome)

@@ -25,7 +25,7 @@ fn mark(places: &mut [usize], passed: usize, number: usize, at: usize)
 pub fn locate(file: &[u8], kind: u32, instance: u16, passed: usize, places: &mut [usize])
     ensures { Located file.now kind instance passed places.new }
 {
-    answers::clear(places, 0);
+    places.fill(0);
     let mut at: usize = 2;
     loop {
         match packets::next_mine(file, kind, instance, at) {
@@ -50,7 +50,7 @@ pub fn locate(file: &[u8], kind: u32, instance: u16, passed: usize, places: &mut
 pub fn lesser(a: usize, b: usize) -> usize
     ensures { result ≡ min a b }
 {
-    if a < b { a } else { b }
+    a.min(b)
 }
 
 // The first of k places that is 0.
@@ -58,12 +58,10 @@ fn first_gone(places: &[usize], k: usize) -> Option<usize>
     requires { k ≤ length places.now }
     ensures { result ≡ first_fail k (λ i. ltb 0 (get_or places.now i 0)) }
 {
-    let mut i: usize = 0;
-    while i < k {
+    for i in 0..k {
         if places[i] == 0 {
             return Some(i);
         }
-        i += 1;
     }
     None
 }
@@ -80,6 +78,7 @@ fn missing_by(
     ensures { result ≡ missing_from n 1 (numbers_from file.now kind instance 2) }
 {
     let mut passed: usize = 0;
+    // A while: the windows are of varying width.
     while passed < n {
         locate(file, kind, instance, passed, places);
         let k = lesser(n - passed, places.len());

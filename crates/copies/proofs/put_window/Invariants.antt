@@ -1,12 +1,9 @@
--- What the loops of `copies::put_window` keep, and what goes down.
+-- What the loop of `copies::put_window` keeps.
 use Rattle.copies.proofs.Puts.{Writing}
 use Rattle.box_rules.specs.Box.{joined_from}
 use Rattle.scans.specs.Code.{mine_of}
-use Prim.Native.Nat.{◌+◌, ◌-◌, ◌≤◌}
+use Prim.Native.Nat.{◌+◌, ◌-◌}
 use Rattle.copies.proofs.put_window.Given as goal
 
 abbrev pub invariant-loop-i : goal.invariant-loop-i
-invariant-loop-i l = Writing l.destination l.end (joined_from (l.k - l.i) (l.passed + 1 + l.i) (mine_of l.file l.kind l.instance)) l.initial.destination l.to (joined_from l.k (l.passed + 1) (mine_of l.file l.kind l.instance)) × (l.i ≤ l.k)
-
-abbrev pub decreases-loop-i : goal.decreases-loop-i
-decreases-loop-i l = l.k - l.i
+invariant-loop-i l = Writing l.destination l.end (joined_from (l.k - l.i) (l.passed + 1 + l.i) (mine_of l.file l.kind l.instance)) l.initial.destination l.to (joined_from l.k (l.passed + 1) (mine_of l.file l.kind l.instance))

@@ -1,9 +1,8 @@
 -- `listing_text::put` meets its contract.
 use Rattle.listing_text.proofs.Writes.{wrote_byte, wrote_past}
 use Rattle.listing_text.proofs.put.Goals as goal
-
-pub returns-then-at-out : goal.returns-then-at-out
-returns-then-at-out c = wrote_byte _ _ _
+use Rattle.listing_text.proofs.put.Goals.{then-at-out, else-at-out}
 
 pub returns : goal.returns
-returns c = wrote_past _ _ _ c.if-at-out.false
+returns c =
+    elim c.if-at-out.branch [ then-at-out w ↦ rw w.out-is (wrote_byte _ _ _) | else-at-out w ↦ rw w.out-is (wrote_past _ _ _ w.if-at-out.false) ]

@@ -1,12 +1,9 @@
--- What the loops of `listing_text::put_text` keep, and what goes down.
-use lib.ListN.{length, take}
+-- What the loop of `listing_text::put_text` keeps.
+use lib.ListN.{take}
 use mathlib.Core.Path.{◌≡◌}
 use Rattle.listing_text.specs.Code.{Wrote}
-use Prim.Native.Nat.{◌+◌, ◌-◌, ◌≤◌}
+use Prim.Native.Nat.{◌+◌}
 use Rattle.listing_text.proofs.put_text.Given as goal
 
-abbrev pub invariant-loop-i : goal.invariant-loop-i
-invariant-loop-i l = Wrote l.initial.out l.out l.at l.to (take l.i l.text) × (l.i ≤ length l.text) × (l.to ≡ l.at + l.i)
-
-abbrev pub decreases-loop-i : goal.decreases-loop-i
-decreases-loop-i l = length l.text - l.i
+abbrev pub invariant-loop-b : goal.invariant-loop-b
+invariant-loop-b l = Wrote l.initial.out l.out l.at l.to (take l.b-index l.text) × (l.to ≡ l.at + l.b-index)

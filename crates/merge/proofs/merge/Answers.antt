@@ -6,4 +6,4 @@ pub returns-in-Ok : goal.returns-in-Ok
 returns-in-Ok c = meets_given c.try_merge-tried.ensures c.in-Ok.is c.answer_of.ensures
 
 pub returns-in-Err : goal.returns-in-Err
-returns-in-Err c = meets_refused c.try_merge-tried.ensures c.in-Err.is c.answer_of-in-Err.ensures c.try_merge-tried.auto.destination c.clear.ensures
+returns-in-Err c = meets_refused c.try_merge-tried.ensures c.in-Err.is c.answer_of-in-Err.ensures c.try_merge-tried.auto.destination (c.fill.ensures.after (λ y e. e))

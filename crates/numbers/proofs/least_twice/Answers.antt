@@ -10,14 +10,10 @@ use Rattle.numbers.proofs.least_twice.Goals as goal
 
 pub loop-i-init : goal.loop-i-init
 unfolding least
-loop-i-init c = (refl, omega arith)
-
-pub overflow_cast-q : goal.overflow_cast-q
-overflow_cast-q c = omega (arith, c.shared_slice_known-1.given c.loop-i.i)
+loop-i-init c = refl
 
 pub loop-i-preserved : goal.loop-i-preserved
-loop-i-preserved c = let e = drop_next c.args.held.now c.loop-i.i (search rules) in
-    (twice_turn _ _ c.loop-i.invariant.0 e (rw c.stands_from.ensures at c.lower-w.ensures), omega arith)
+loop-i-preserved c = twice_turn _ _ c.loop-i.invariant (drop_next c.args.held.now c.loop-i.i (search rules)) (rw c.stands_from.ensures at c.lower-w.ensures)
 
 pub returns : goal.returns
-returns c = twice_end _ _ c.loop-i.invariant.0 (drop_of_length-le c.args.held.now {i = c.loop-i.i} (omega arith))
+returns c = twice_end _ _ c.loop-i.invariant (drop_of_length-le c.args.held.now {i = c.loop-i.i} (omega arith))

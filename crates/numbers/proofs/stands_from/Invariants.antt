@@ -1,12 +1,9 @@
--- What the loops of `numbers::stands_from` keep, and what goes down.
+-- What the loop of `numbers::stands_from` keeps.
 use Rattle.box_rules.specs.Numbers.{count}
-use lib.ListN.{length, drop}
-use Prim.Native.Nat.{◌+◌, ◌-◌, ◌≤◌}
+use lib.ListN.{drop}
+use Prim.Native.Nat.{◌+◌, ◌≤◌}
 use mathlib.Core.Path.{◌≡◌}
 use Rattle.numbers.proofs.stands_from.Given as goal
 
 abbrev pub invariant-loop-i : goal.invariant-loop-i
-invariant-loop-i l = (l.n + count l.q (drop l.i l.held) ≡ count l.q (drop l.from l.held)) × (l.n ≤ length l.held) × (l.n + l.from ≤ l.i)
-
-abbrev pub decreases-loop-i : goal.decreases-loop-i
-decreases-loop-i l = length l.held - l.i
+invariant-loop-i l = (l.n + count l.q (drop l.i l.held) ≡ count l.q (drop l.from l.held)) × (l.n + l.from ≤ l.i)

@@ -1,12 +1,12 @@
 -- `numbers::within` meets its contract.
 use Rattle.box_rules.specs.Numbers.{within}
-use borrow.Author.Tests.{lt-ltb, le-ltb}
+use borrow.Author.Tests.{lt-ltb, le-ltb, lt-leb}
 use Rattle.numbers.proofs.within.Goals as goal
 
-pub returns-then-x-lo : goal.returns-then-x-lo
+pub returns-then-lo-x : goal.returns-then-lo-x
 unfolding within
-returns-then-x-lo c = rw (lt-ltb _ _ c.if-x-lo.true)
+returns-then-lo-x c = rw (le-ltb _ _ c.if-lo-x.true)
 
-pub returns-else-x-lo : goal.returns-else-x-lo
+pub returns-else-lo-x : goal.returns-else-lo-x
 unfolding within
-returns-else-x-lo c = rw (le-ltb _ _ c.if-x-lo.false)
+returns-else-lo-x c = simp (lt-ltb _ _ c.if-lo-x.false, lt-leb _ _ c.if-lo-x.false)

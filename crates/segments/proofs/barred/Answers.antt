@@ -1,5 +1,5 @@
 -- `segments::barred` meets its contract.
-use borrow.Author.Tests.{lt-ltb, le-ltb}
+use borrow.Author.Tests.{lt-ltb, le-ltb, lt-leb}
 use Rattle.box_rules.specs.Walk.{barred}
 use Rattle.segments.proofs.barred.Goals as goal
 
@@ -7,10 +7,10 @@ pub returns-then-b-lt2 : goal.returns-then-b-lt2
 unfolding barred
 returns-then-b-lt2 c = simp (lt-ltb _ _ c.if-b-lt2.true)
 
-pub returns-then-b-lt208 : goal.returns-then-b-lt208
+pub returns-then-b-ge208 : goal.returns-then-b-ge208
 unfolding barred
-returns-then-b-lt208 c = simp (le-ltb _ _ c.if-b-lt2.false, lt-ltb _ _ c.if-b-lt208.true)
+returns-then-b-ge208 c = simp (le-ltb _ _ c.if-b-lt2.false, le-ltb _ _ c.if-b-ge208.true)
 
-pub returns : goal.returns
+pub returns-else-b-ge208 : goal.returns-else-b-ge208
 unfolding barred
-returns c = simp (le-ltb _ _ c.if-b-lt2.false, le-ltb _ _ c.if-b-lt208.false)
+returns-else-b-ge208 c = simp (le-ltb _ _ c.if-b-lt2.false, lt-ltb _ _ c.if-b-ge208.false, lt-leb _ _ c.if-b-ge208.false)

@@ -7,13 +7,13 @@ use native.Mathlib.Omega.{arith}
 use Rattle.windows.proofs.first_gone.Goals as goal
 
 pub loop-i-init : goal.loop-i-init
-loop-i-init c = (first_start _, omega arith)
+loop-i-init c = first_start _
 
 pub returns-then-places-i-eq0 : goal.returns-then-places-i-eq0
-returns-then-places-i-eq0 c = sym (first_found _ _ _ c.loop-i-test.true c.loop-i.invariant.0 (rw c.if-places-i-eq0.true))
+returns-then-places-i-eq0 c = sym (first_found _ _ _ c.loop-i-test.true c.loop-i.invariant (rw c.if-places-i-eq0.true))
 
 pub loop-i-preserved : goal.loop-i-preserved
-loop-i-preserved c = (first_more _ _ c.loop-i.invariant.0 (lt-ltb 0 (get_or c.args.places.now c.loop-i.i 0) (omega (arith, c.if-places-i-eq0.false))), omega arith)
+loop-i-preserved c = first_more _ _ c.loop-i.invariant (lt-ltb 0 (get_or c.args.places.now c.loop-i.i 0) (omega (arith, c.if-places-i-eq0.false)))
 
 pub returns : goal.returns
-returns c = sym (first_end _ _ _ c.loop-i.invariant.1 c.loop-i-test.false c.loop-i.invariant.0)
+returns c = sym (first_end _ _ _ c.loop-i.auto.i-end c.loop-i-test.false c.loop-i.invariant)

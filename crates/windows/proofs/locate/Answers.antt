@@ -6,7 +6,7 @@ use native.Mathlib.Omega.{arith}
 use Rattle.windows.proofs.locate.Goals as goal
 
 pub loop-head-init : goal.loop-head-init
-loop-head-init c = locate_start _ _ _ _ (length c.args.places.now) c.clear.ensures
+loop-head-init c = locate_start _ _ _ _ (length c.args.places.now) (c.fill.ensures.after (λ y e. e))
 
 pub returns-in-None : goal.returns-in-None
 returns-in-None c = locate_end c.loop-head.invariant (gone _ _ _ _ c.next_mine.ensures c.in-None.is)
