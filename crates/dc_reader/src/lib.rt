@@ -34,12 +34,11 @@ fn read_dc_blocks(data: &[u8], values: &[i32], destination: &mut [i32]) -> Block
         left: 0,
         byte: 0,
     };
-    let mut i = 0;
-    while i < values.len() {
+    for (i, &value) in values.iter().enumerate() {
         let t = bits::reader::bit_at(data, c);
         match t {
             Taken::Bit(b, next) => {
-                destination[i] = new_dc(values[i], b);
+                destination[i] = new_dc(value, b);
                 c = next;
             }
             Taken::Stopped(number, stop) => return Blocks::Refused(Refusal {
@@ -48,7 +47,6 @@ fn read_dc_blocks(data: &[u8], values: &[i32], destination: &mut [i32]) -> Block
                 second: stop.last,
             }),
         }
-        i += 1;
     }
     Blocks::Read(c)
 }
