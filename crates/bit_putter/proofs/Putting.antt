@@ -4,7 +4,7 @@ use mathlib.Core.List.{List, [], ◌∷◌, ◌++◌, append_assoc, append-nil}
 use mathlib.Core.Bool.{Bool, true, false, cond}
 use Prim.Native.Nat.{ℕ, zero, suc, ◌+◌, ◌-◌, ◌*◌, ◌%◌, ◌^◌, ◌≤◌, ◌<◌}
 use native.Mathlib.Nat.{pow-suc}
-use native.Mathlib.Numerals.{add-one, sub-one}
+use native.Mathlib.Numerals.{add-one}
 use native.Mathlib.Omega.{arith}
 use lib.Bits.{bit_and, bit_or, or_shifted}
 use lib.Dec.{eqb}
@@ -101,22 +101,18 @@ module _ {before : List ℕ} {p : Putter} (s : Sound p) (b : Bool) where
 
 -- ---- the last byte
 
-pub padded_on : (held room : ℕ) → 0 < room → padded (2 * held + 1) (room - 1) ≡ padded held room
+pub padded_on : (held room n : ℕ) → n < room → padded (2 * held + 1) (room - (n + 1)) ≡ padded held (room - n)
 unfolding padded
-padded_on held zero h = absurd (omega arith)
-padded_on held (suc room) h = rw sub-one
+padded_on held room n h = let e : room - n ≡ suc (room - (n + 1)) = omega arith in rw e
 
 pub padded_end : (held room : ℕ) → room ≤ 0 → 2 * held + 1 ≡ padded held room
 unfolding padded
 padded_end held room h = let e : room ≡ 0 = omega arith in rw e
 
-pub room_on : (held room : ℕ) → room ≤ 7 → 0 < room → held < 2 ^ (7 - room) → 2 * held + 1 < 2 ^ (7 - (room - 1))
-room_on held room h l k =
-    let e : 7 - (room - 1) ≡ suc (7 - room) = omega arith in
-    rw e (omega (arith, pow-suc 2 (7 - room)))
-
-pub held_byte : (held room : ℕ) → held < 2 ^ (7 - room) → held < 128
-held_byte held room k = let h : 2 ^ (7 - room) ≤ 2 ^ 7 = pow_mono {i = 7 - room} {j = 7} (omega arith) in omega arith
+pub room_on : (held room n : ℕ) → room ≤ 7 → n < room → held < 2 ^ (7 - (room - n)) → 2 * held + 1 < 2 ^ (7 - (room - (n + 1)))
+room_on held room n h l k =
+    let e : 7 - (room - (n + 1)) ≡ suc (7 - (room - n)) = omega arith in
+    rw e (omega (arith, pow-suc 2 (7 - (room - n))))
 
 module _ {before : List ℕ} {p : Putter} where
   -- no bit is in hand

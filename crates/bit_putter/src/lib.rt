@@ -85,6 +85,7 @@ pub fn put_digits(destination: &mut [u8], p: Putter, size: usize, number: u32) -
     let all = gathered(p.held, size, number);
     let mut at = p.at;
     let mut count = 7 - (p.room as usize) + size;
+    // A while: the count goes down by the eight bits of a byte.
     while 8 <= count {
         count -= 8;
         at = put_byte(destination, at, low(all >> count, 8) as u8);
@@ -102,10 +103,8 @@ fn fill_up(held: u8, room: u8) -> u8
     ensures { result ≡ padded held room }
 {
     let mut h = held;
-    let mut m = room;
-    while 0 < m {
+    for _ in 0..room {
         h = 2 * h + 1;
-        m -= 1;
     }
     2 * h + 1
 }

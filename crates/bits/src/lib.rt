@@ -89,14 +89,12 @@ fn take_bit(data: &[u8], c: Cursor) -> Taken
 fn ones_left(left: u8, byte: u8) -> bool
     ensures { result ≡ every (highs left byte) }
 {
-    let mut n = left;
     let mut b = byte;
-    while 0 < n {
+    for _ in 0..left {
         if b >> 7 != 1 {
             return false;
         }
         b = (b & 127) << 1;
-        n -= 1;
     }
     true
 }
@@ -105,10 +103,5 @@ fn ones_left(left: u8, byte: u8) -> bool
 fn only_padding(data: &[u8], c: Cursor) -> bool
     ensures { result ≡ only_padding (source_of «data».now c) }
 {
-    let at = c.at;
-    if ones_left(c.left, c.byte) {
-        data.len() <= at
-    } else {
-        false
-    }
+    ones_left(c.left, c.byte) && data.len() <= c.at
 }

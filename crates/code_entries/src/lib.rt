@@ -12,12 +12,6 @@ pub struct Code {
     pub number: u32,
 }
 
-fn wide(x: u8) -> usize
-    ensures { (result ≡ x) × (result < 256) }
-{
-    x as usize
-}
-
 // The code of the value at a place.
 fn code_at(counts: &[u8], place: usize) -> Code
     requires { (length counts.now ≡ 16) × (place < code_count counts.now) × (place < 256) }
@@ -25,9 +19,8 @@ fn code_at(counts: &[u8], place: usize) -> Code
 {
     let mut first: usize = 0;
     let mut k = place;
-    let mut l = 0;
-    while l < counts.len() {
-        let n = wide(counts[l]);
+    for (l, &count) in counts.iter().enumerate() {
+        let n = usize::from(count);
         if k < n {
             return Code {
                 size: l + 1,
@@ -36,7 +29,6 @@ fn code_at(counts: &[u8], place: usize) -> Code
         }
         first = 2 * (first + n);
         k -= n;
-        l += 1;
     }
     Code { size: 0, number: 0 }
 }
@@ -47,12 +39,9 @@ pub fn code_table(counts: &[u8], values: &[u8]) -> [u32; 256]
     ensures { Entries (table counts.now values.now) result }
 {
     let mut entries = [0; 256];
-    let mut place = 0;
-    while place < values.len() {
+    for (place, &v) in values.iter().enumerate() {
         let code = code_at(counts, place);
-        let v = wide(values[place]);
-        entries[v] = 32 * code.number + (code.size as u32);
-        place += 1;
+        entries[usize::from(v)] = 32 * code.number + (code.size as u32);
     }
     entries
 }

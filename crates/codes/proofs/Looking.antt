@@ -6,7 +6,6 @@ use Prim.Native.Nat.{ℕ, ◌+◌, ◌-◌, ◌*◌, ◌^◌, ◌≤◌, ◌<◌
 use native.Mathlib.Nat.{pow-suc}
 use native.Mathlib.Numerals.{add-one}
 use native.Mathlib.Omega.{arith}
-use lib.Pow.{pow_mono}
 use lib.ListN.{length, get_or, drop, drop_of_length-le}
 use lib.Seq.{drop-cons, drop-drop, get_or-drop}
 use Rattle.bit_rules.specs.Digits.{bin}
@@ -45,9 +44,6 @@ module _ {T : Table} {numbers : List ℕ} (ready : Prepared T numbers) where
   }
 
   module _ {s₀ s : Source} {code l : ℕ} (h : Here T numbers s₀ s code l) where
-    pub here_small : l < 16 → code < 32768
-    here_small k = omega (arith, h.small, pow_mono {i = l} {j = 15} (omega arith))
-
     -- sixteen bits and no code
     pub here_none : 16 ≤ l → stopped (stop 14 s.last) ≡ take_code T s₀
     unfolding decode_from lengths_from

@@ -17,22 +17,14 @@ pub enum Coded {
     Stopped(u32, Cursor),
 }
 
-fn wide(x: u8) -> usize
-    ensures { (result ≡ x) × (result < 256) }
-{
-    x as usize
-}
-
 // The sum of 16 counts.
 fn code_count(counts: &[u8]) -> usize
     requires { length counts.now ≡ 16 }
     ensures { result ≡ code_count counts.now }
 {
     let mut sum = 0;
-    let mut l = 0;
-    while l < counts.len() {
-        sum += wide(counts[l]);
-        l += 1;
+    for &n in counts {
+        sum += usize::from(n);
     }
     sum
 }
@@ -44,11 +36,9 @@ fn kraft_of(counts: &[u8]) -> usize
 {
     let mut sum = 0;
     let mut weight = 32768;
-    let mut l = 0;
-    while l < counts.len() {
-        sum += wide(counts[l]) * weight;
+    for &n in counts {
+        sum += usize::from(n) * weight;
         weight /= 2;
-        l += 1;
     }
     sum
 }
@@ -57,25 +47,16 @@ fn kraft_of(counts: &[u8]) -> usize
 fn holds_from(values: &[u8], from: usize, v: u8) -> bool
     ensures { result ≡ holds v (drop from values.now) }
 {
-    let mut at = from;
-    while at < values.len() {
-        if values[at] == v {
-            return true;
-        }
-        at += 1;
-    }
-    false
+    from < values.len() && values[from..].contains(&v)
 }
 
 fn all_distinct(values: &[u8]) -> bool
     ensures { result ≡ distinct values.now }
 {
-    let mut i = 0;
-    while i < values.len() {
-        if holds_from(values, i + 1, values[i]) {
+    for (i, &v) in values.iter().enumerate() {
+        if holds_from(values, i + 1, v) {
             return false;
         }
-        i += 1;
     }
     true
 }
@@ -110,8 +91,7 @@ pub fn take_code(counts: &[u8], values: &[u8], data: &[u8], c: Cursor) -> Coded
     let mut cursor = c;
     let mut over = 0;
     let mut place = 0;
-    let mut l = 0;
-    while l < counts.len() {
+    for &count in counts {
         let t = bits::reader::bit_at(data, cursor);
         match t {
             Taken::Bit(b, next) => {
@@ -120,13 +100,12 @@ pub fn take_code(counts: &[u8], values: &[u8], data: &[u8], c: Cursor) -> Coded
             }
             Taken::Stopped(number, stop) => return Coded::Stopped(number, stop),
         }
-        let n = wide(counts[l]);
+        let n = usize::from(count);
         if over < n {
             return Coded::Value(values[place + over], cursor);
         }
         over -= n;
         place += n;
-        l += 1;
     }
     Coded::Stopped(14, cursor)
 }
@@ -150,22 +129,14 @@ pub fn put_numbers(counts: &[u8], numbers: &mut [u16])
 {
     let mut code = 0;
     let mut position = 0;
-    let mut l = 0;
-    while l < counts.len() {
-        let n = wide(counts[l]);
+    for (l, &count) in counts.iter().enumerate() {
+        let n = usize::from(count);
         numbers[3 * l] = code as u16;
         numbers[3 * l + 1] = limit(code, n);
         numbers[3 * l + 2] = position as u16;
         code = 2 * (code + n);
         position += n;
-        l += 1;
     }
-}
-
-fn number(x: u16) -> usize
-    ensures { (result ≡ x) × (result < 65536) }
-{
-    x as usize
 }
 
 // The same by the numbers of the lengths: bits are taken while they are above the largest code of their length. (The counts stand in the promise alone.)
@@ -175,8 +146,7 @@ pub fn look_up(counts: &[u8], values: &[u8], numbers: &[u16; 48], data: &[u8], c
 {
     let mut here = c;
     let mut code = 0;
-    let mut l = 0;
-    while l < 16 {
+    for l in 0..16 {
         let t = bits::reader::bit_at(data, here);
         match t {
             Taken::Bit(b, next) => {
@@ -185,12 +155,11 @@ pub fn look_up(counts: &[u8], values: &[u8], numbers: &[u16; 48], data: &[u8], c
             }
             Taken::Stopped(number, stop) => return Coded::Stopped(number, stop),
         }
-        if code < number(numbers[3 * l + 1]) {
-            let smallest = number(numbers[3 * l]);
-            let position = number(numbers[3 * l + 2]);
+        if code < usize::from(numbers[3 * l + 1]) {
+            let smallest = usize::from(numbers[3 * l]);
+            let position = usize::from(numbers[3 * l + 2]);
             return Coded::Value(values[position + code - smallest], here);
         }
-        l += 1;
     }
     Coded::Stopped(14, here)
 }

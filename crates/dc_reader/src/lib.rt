@@ -32,12 +32,11 @@ fn read_dc_blocks(data: &[u8], values: &[i32], destination: &mut [i32]) -> Resul
         left: 0,
         byte: 0,
     };
-    let mut i = 0;
-    while i < values.len() {
+    for (i, &value) in values.iter().enumerate() {
         let t = bits::reader::bit_at(data, c);
         match t {
             Taken::Bit(b, next) => {
-                destination[i] = new_dc(values[i], b);
+                destination[i] = new_dc(value, b);
                 c = next;
             }
             Taken::Stopped(number, stop) => return Err(Refusal {
@@ -46,7 +45,6 @@ fn read_dc_blocks(data: &[u8], values: &[i32], destination: &mut [i32]) -> Resul
                 second: stop.last,
             }),
         }
-        i += 1;
     }
     Ok(c)
 }

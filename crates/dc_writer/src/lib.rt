@@ -27,11 +27,8 @@ fn put_dc_bits(values: &[i32], destination: &mut [u8]) -> Putter
         held: 0,
         room: 7,
     };
-    let mut i = 0;
-    while i < values.len() {
-        let bit = dc_bit(values[i]);
-        p = bit_putter::put_bit(destination, p, bit);
-        i += 1;
+    for &value in values {
+        p = bit_putter::put_bit(destination, p, dc_bit(value));
     }
     p
 }

@@ -1,11 +1,8 @@
--- What the loops of `bit_putter::fill_up` keep, and what goes down.
+-- What the loop of `bit_putter::fill_up` keeps.
 use mathlib.Core.Path.{◌≡◌}
-use Prim.Native.Nat.{◌-◌, ◌^◌, ◌≤◌, ◌<◌}
+use Prim.Native.Nat.{◌-◌, ◌^◌, ◌<◌}
 use Rattle.bit_rules.specs.Pack.{padded}
 use Rattle.bit_putter.proofs.fill_up.Given as goal
 
-abbrev pub invariant-loop-m : goal.invariant-loop-m
-invariant-loop-m l = (padded l.h l.m ≡ padded l.held l.room) × (l.m ≤ 7) × (l.h < 2 ^ (7 - l.m))
-
-abbrev pub decreases-loop-m : goal.decreases-loop-m
-decreases-loop-m l = l.m
+abbrev pub invariant-loop : goal.invariant-loop
+invariant-loop l = (padded l.h (l.room - l.counter) ≡ padded l.held l.room) × (l.h < 2 ^ (7 - (l.room - l.counter)))

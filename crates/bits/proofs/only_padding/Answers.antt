@@ -1,4 +1,5 @@
 -- `bits::only_padding` meets its contract. Assumes nothing.
+use mathlib.Core.Path.{◌∙◌}
 use Rattle.bits.proofs.Taking.{padding_yes, padding_no}
 use Rattle.bits.proofs.only_padding.Goals as goal
 
@@ -6,4 +7,4 @@ pub returns-then-ones_left : goal.returns-then-ones_left
 returns-then-ones_left c = padding_yes _ _ _ c.ones_left.ensures c.if-ones_left.true
 
 pub returns-else-ones_left : goal.returns-else-ones_left
-returns-else-ones_left c = padding_no _ _ _ c.ones_left.ensures c.if-ones_left.false
+returns-else-ones_left c = c.if-ones_left.false ∙ padding_no _ _ _ c.ones_left.ensures c.if-ones_left.false

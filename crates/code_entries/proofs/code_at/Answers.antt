@@ -4,25 +4,16 @@ use native.Mathlib.Omega.{arith}
 use Rattle.code_entries.proofs.code_at.Goals as goal
 
 pub loop-l-init : goal.loop-l-init
-loop-l-init c = (c.requires.0, assign_first c.requires.0 c.requires.1)
-
-pub overflow_add-result-then-k-n : goal.overflow_add-result-then-k-n
-overflow_add-result-then-k-n c = omega (arith, assign_small c.loop-l.invariant.0 c.loop-l.invariant.1 c.loop-l-test.true, c.wide-n.ensures.1)
+loop-l-init c = assign_first c.requires.0 c.requires.1
 
 pub overflow_cast-result : goal.overflow_cast-result
-overflow_cast-result c = omega (arith, assign_small c.loop-l.invariant.0 c.loop-l.invariant.1 c.loop-l-test.true, c.wide-n.ensures.1)
+overflow_cast-result c = omega (arith, assign_small c.requires.0 c.loop-l.invariant c.loop-l-test.true)
 
 pub returns-then-k-n : goal.returns-then-k-n
-returns-then-k-n c = assigned c.loop-l.invariant.0 c.loop-l.invariant.1 c.loop-l-test.true c.wide-n.ensures.0 c.wide-n.ensures.1 c.if-k-n.true
-
-pub overflow_add-first : goal.overflow_add-first
-overflow_add-first c = omega (arith, assign_small c.loop-l.invariant.0 c.loop-l.invariant.1 c.loop-l-test.true, c.wide-n.ensures.1)
-
-pub overflow_mul-first : goal.overflow_mul-first
-overflow_mul-first c = omega (arith, assign_small c.loop-l.invariant.0 c.loop-l.invariant.1 c.loop-l-test.true, c.wide-n.ensures.1)
+returns-then-k-n c = assigned c.requires.0 c.loop-l.invariant c.loop-l-test.true c.from-n.ensures (omega (arith, c.from-n.ensures, c.type_inv.counts c.loop-l.l)) c.if-k-n.true
 
 pub loop-l-preserved : goal.loop-l-preserved
-loop-l-preserved c = (c.loop-l.invariant.0, assign_turn c.loop-l.invariant.0 c.loop-l.invariant.1 c.loop-l-test.true c.wide-n.ensures.0 c.wide-n.ensures.1 c.if-k-n.false)
+loop-l-preserved c = assign_turn c.requires.0 c.loop-l.invariant c.loop-l-test.true c.from-n.ensures (omega (arith, c.from-n.ensures, c.type_inv.counts c.loop-l.l)) c.if-k-n.false
 
 pub returns : goal.returns
-returns c = absurd (assign_end c.loop-l.invariant.0 c.loop-l.invariant.1 c.loop-l-test.false)
+returns c = absurd (assign_end c.requires.0 c.loop-l.invariant c.loop-l-test.false)

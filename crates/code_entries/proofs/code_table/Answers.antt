@@ -12,17 +12,8 @@ pub code_at-code-requires : goal.code_at-code-requires
 code_at-code-requires c = let g = good (table c.args.counts.now c.args.values.now) c.requires in
     (g.sixteen, omega (arith, g.all, c.loop-place-test.true), omega (arith, g.bytes, c.loop-place-test.true))
 
-pub overflow_mul-entries : goal.overflow_mul-entries
-overflow_mul-entries c = omega (arith, c.code_at-code.ensures.small)
-
-pub overflow_cast-entries : goal.overflow_cast-entries
-overflow_cast-entries c = omega (arith, c.code_at-code.ensures.short)
-
-pub overflow_add-entries : goal.overflow_add-entries
-overflow_add-entries c = omega (arith, c.code_at-code.ensures.short, c.code_at-code.ensures.small)
-
 pub loop-place-preserved : goal.loop-place-preserved
-loop-place-preserved c = enter_turn c.requires c.loop-place.invariant c.loop-place-test.true c.code_at-code.ensures c.wide-v.ensures.0 c.wide-v.ensures.1
+loop-place-preserved c = enter_turn c.requires c.loop-place.invariant c.loop-place-test.true c.code_at-code.ensures c.from.ensures (omega (arith, c.from.ensures, c.type_inv.values c.loop-place.place))
 
 pub returns : goal.returns
 returns c = enter_end c.requires c.loop-place.invariant c.loop-place-test.false

@@ -1,11 +1,6 @@
--- What the loops of `codes::code_count` keep, and what goes down.
-use Prim.Native.Nat.{◌-◌}
-use lib.ListN.{length}
+-- What the loop of `codes::code_count` keeps.
 use Rattle.bit_rules.proofs.Tables.{Summed}
 use Rattle.codes.proofs.code_count.Given as goal
 
-abbrev pub invariant-loop-l : goal.invariant-loop-l
-invariant-loop-l l = Summed l.counts l.sum l.l
-
-abbrev pub decreases-loop-l : goal.decreases-loop-l
-decreases-loop-l l = length l.counts - l.l
+abbrev pub invariant-loop-n : goal.invariant-loop-n
+invariant-loop-n l = Summed l.counts l.sum l.n-index

@@ -1,11 +1,6 @@
--- What the loops of `codes::kraft_of` keep, and what goes down.
-use Prim.Native.Nat.{◌-◌}
-use lib.ListN.{length}
+-- What the loop of `codes::kraft_of` keeps.
 use Rattle.bit_rules.proofs.Tables.{Weighed}
 use Rattle.codes.proofs.kraft_of.Given as goal
 
-abbrev pub invariant-loop-l : goal.invariant-loop-l
-invariant-loop-l l = Weighed l.counts l.sum l.weight l.l
-
-abbrev pub decreases-loop-l : goal.decreases-loop-l
-decreases-loop-l l = length l.counts - l.l
+abbrev pub invariant-loop-n : goal.invariant-loop-n
+invariant-loop-n l = Weighed l.counts l.sum l.weight l.n-index

@@ -1,5 +1,4 @@
--- What the loops of `codes::look_up` keep, and what goes down.
-use Prim.Native.Nat.{◌-◌}
+-- What the loop of `codes::look_up` keeps.
 use Rattle.bits.specs.Code.{source_of}
 use Rattle.bit_rules.specs.Table.{table}
 use Rattle.codes.proofs.Looking.{Here}
@@ -7,6 +6,3 @@ use Rattle.codes.proofs.look_up.Given as goal
 
 abbrev pub invariant-loop-l : goal.invariant-loop-l
 invariant-loop-l l = Here (table l.counts l.values) l.numbers (source_of l.data l.initial.here) (source_of l.data l.here) l.code l.l
-
-abbrev pub decreases-loop-l : goal.decreases-loop-l
-decreases-loop-l l = 16 - l.l

@@ -8,39 +8,34 @@ use Rattle.codes.proofs.Reading.{here_first, here_small, here_none, here_stopped
 use native.Mathlib.Omega.{arith}
 use Rattle.codes.proofs.take_code.Goals as goal
 
-pub loop-l-init : goal.loop-l-init
-loop-l-init c = here_first _ c.requires _
+pub loop-count-init : goal.loop-count-init
+loop-count-init c = here_first _ c.requires _
 
 pub overflow_mul-over : goal.overflow_mul-over
-overflow_mul-over c = omega (arith, here_small c.loop-l.invariant c.requires c.loop-l-test.true)
+overflow_mul-over c = omega (arith, here_small c.loop-count.invariant c.requires c.loop-count-test.true)
 
 pub overflow_add-over : goal.overflow_add-over
-overflow_add-over c = omega (arith, bin_small c.in-Bit.b, here_small c.loop-l.invariant c.requires c.loop-l-test.true)
+overflow_add-over c = omega (arith, bin_small c.in-Bit.b, here_small c.loop-count.invariant c.requires c.loop-count-test.true)
 
 pub returns-in-Stopped : goal.returns-in-Stopped
 unfolding coded_of taken_of
-returns-in-Stopped c = here_stopped c.loop-l.invariant c.loop-l-test.true (sym c.bit_at-t.ensures ∙ ap (taken_of _) c.in-Stopped.is)
-
-pub overflow_add-result : goal.overflow_add-result
-unfolding taken_of
-overflow_add-result c = let took : take_bit (source_of c.args.«data».now c.loop-l.cursor) ≡ got c.in-Bit.b (source_of c.args.«data».now c.in-Bit.next) = sym c.bit_at-t.ensures ∙ ap (taken_of _) c.in-Bit.is in
-    omega (arith, here_room c.loop-l.invariant c.loop-l-test.true (took) (rw c.wide-n.ensures.0 at c.if-over-n.true))
+returns-in-Stopped c = here_stopped c.loop-count.invariant c.loop-count-test.true (sym c.bit_at-t.ensures ∙ ap (taken_of _) c.in-Stopped.is)
 
 pub bounds-values-place : goal.bounds-values-place
 unfolding taken_of
-bounds-values-place c = let took : take_bit (source_of c.args.«data».now c.loop-l.cursor) ≡ got c.in-Bit.b (source_of c.args.«data».now c.in-Bit.next) = sym c.bit_at-t.ensures ∙ ap (taken_of _) c.in-Bit.is in
-    here_room c.loop-l.invariant c.loop-l-test.true (took) (rw c.wide-n.ensures.0 at c.if-over-n.true)
+bounds-values-place c = let took : take_bit (source_of c.args.«data».now c.loop-count.cursor) ≡ got c.in-Bit.b (source_of c.args.«data».now c.in-Bit.next) = sym c.bit_at-t.ensures ∙ ap (taken_of _) c.in-Bit.is in
+    here_room c.loop-count.invariant c.loop-count-test.true (took) (rw c.from-n.ensures at c.if-over-n.true)
 
 pub returns-then-over-n : goal.returns-then-over-n
 unfolding coded_of taken_of
-returns-then-over-n c = let took : take_bit (source_of c.args.«data».now c.loop-l.cursor) ≡ got c.in-Bit.b (source_of c.args.«data».now c.in-Bit.next) = sym c.bit_at-t.ensures ∙ ap (taken_of _) c.in-Bit.is in
-    here_found c.loop-l.invariant c.loop-l-test.true (took) (rw c.wide-n.ensures.0 at c.if-over-n.true)
+returns-then-over-n c = let took : take_bit (source_of c.args.«data».now c.loop-count.cursor) ≡ got c.in-Bit.b (source_of c.args.«data».now c.in-Bit.next) = sym c.bit_at-t.ensures ∙ ap (taken_of _) c.in-Bit.is in
+    here_found c.loop-count.invariant c.loop-count-test.true (took) (rw c.from-n.ensures at c.if-over-n.true)
 
-pub loop-l-preserved : goal.loop-l-preserved
+pub loop-count-preserved : goal.loop-count-preserved
 unfolding taken_of
-loop-l-preserved c = let took : take_bit (source_of c.args.«data».now c.loop-l.cursor) ≡ got c.in-Bit.b (source_of c.args.«data».now c.in-Bit.next) = sym c.bit_at-t.ensures ∙ ap (taken_of _) c.in-Bit.is in
-    rw c.wide-n.ensures.0 (here_on c.loop-l.invariant c.loop-l-test.true (took) (rw c.wide-n.ensures.0 at c.if-over-n.false))
+loop-count-preserved c = let took : take_bit (source_of c.args.«data».now c.loop-count.cursor) ≡ got c.in-Bit.b (source_of c.args.«data».now c.in-Bit.next) = sym c.bit_at-t.ensures ∙ ap (taken_of _) c.in-Bit.is in
+    rw c.from-n.ensures (here_on c.loop-count.invariant c.loop-count-test.true (took) (rw c.from-n.ensures at c.if-over-n.false))
 
 pub returns : goal.returns
 unfolding coded_of source_of
-returns c = here_none c.loop-l.invariant c.loop-l-test.false
+returns c = here_none c.loop-count.invariant c.loop-count-test.false

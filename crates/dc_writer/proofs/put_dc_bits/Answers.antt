@@ -11,15 +11,15 @@ use borrow.Author.Rules.{rules}
 use native.Mathlib.Omega.{arith}
 use Rattle.dc_writer.proofs.put_dc_bits.Goals as goal
 
-pub loop-i-init : goal.loop-i-init
-loop-i-init c = (search rules, refl, going_start new_sound)
+pub loop-value-init : goal.loop-value-init
+loop-value-init c = (refl, going_start new_sound)
 
 pub put_bit-p-requires : goal.put_bit-p-requires
-put_bit-p-requires c = record { sound = c.loop-i.invariant.2.sound; at_bound = omega (arith, c.loop-i.invariant.2.near, length-map c.args.values.now dc_bit, c.requires) }
+put_bit-p-requires c = record { sound = c.loop-value.invariant.1.sound; at_bound = omega (arith, c.loop-value.invariant.1.near, length-map c.args.values.now dc_bit, c.requires) }
 
-pub loop-i-preserved : goal.loop-i-preserved
-loop-i-preserved c = let e = c.dc_bit-bit.ensures ∙ ap dc_bit (back w32 (get_or c.args.values.now c.loop-i.i (pos 0)) c.dc_bit-arg-1.given) in
-    (omega arith, c.put_bit-p.auto.destination ∙ c.loop-i.invariant.1, bits_turn c.args.values.now c.loop-i.i c.loop-i.invariant.2 c.loop-i-test.true e c.put_bit-p.ensures)
+pub loop-value-preserved : goal.loop-value-preserved
+loop-value-preserved c = let e = c.dc_bit.ensures ∙ ap dc_bit (back w32 (get_or c.args.values.now c.loop-value.value-index (pos 0)) (search rules)) in
+    (c.put_bit-p.auto.destination ∙ c.loop-value.invariant.0, bits_turn c.args.values.now c.loop-value.value-index c.loop-value.invariant.1 c.loop-value-test.true e c.put_bit-p.ensures)
 
 pub returns : goal.returns
-returns c = bits_end c.args.values.now c.loop-i.i c.loop-i.invariant.2 c.loop-i-test.false
+returns c = bits_end c.args.values.now c.loop-value.value-index c.loop-value.invariant.1 c.loop-value-test.false

@@ -10,18 +10,18 @@ use borrow.Author.Rules.{rules}
 use Rattle.levels.proofs.search_outside.Goals as goal
 
 pub loop-i-init : goal.loop-i-init
-loop-i-init c = (search rules, first_start (inside c.args.part c.args.level c.args.values.now))
+loop-i-init c = first_start (inside c.args.part c.args.level c.args.values.now)
 
 pub returns-then-not-in_level : goal.returns-then-not-in_level
 unfolding first_outside inside
-returns-then-not-in_level c = let tested : c.in_level.result ≡ inside c.args.part c.args.level c.args.values.now c.loop-i.i = c.in_level.ensures ∙ rw (c.is_dc-dc.ensures, back w32 (get_or c.args.values.now c.loop-i.i (pos 0)) c.in_level-arg-1.given) in
-    sym (first_found _ _ _ c.loop-i-test.true c.loop-i.invariant.1 (sym (tested) ∙ c.if-not-in_level.true))
+returns-then-not-in_level c = let tested : c.in_level.result ≡ inside c.args.part c.args.level c.args.values.now c.loop-i.i = c.in_level.ensures ∙ rw (c.is_dc.ensures, back w32 (get_or c.args.values.now c.loop-i.i (pos 0)) (search rules)) in
+    sym (first_found _ _ _ c.loop-i-test.true c.loop-i.invariant (sym tested ∙ c.if-not-in_level.true))
 
 pub loop-i-preserved : goal.loop-i-preserved
 unfolding inside
-loop-i-preserved c = let tested : c.in_level.result ≡ inside c.args.part c.args.level c.args.values.now c.loop-i.i = c.in_level.ensures ∙ rw (c.is_dc-dc.ensures, back w32 (get_or c.args.values.now c.loop-i.i (pos 0)) c.in_level-arg-1.given) in
-    (search rules, first_more _ _ c.loop-i.invariant.1 (sym (tested) ∙ c.if-not-in_level.false))
+loop-i-preserved c = let tested : c.in_level.result ≡ inside c.args.part c.args.level c.args.values.now c.loop-i.i = c.in_level.ensures ∙ rw (c.is_dc.ensures, back w32 (get_or c.args.values.now c.loop-i.i (pos 0)) (search rules)) in
+    first_more _ _ c.loop-i.invariant (sym tested ∙ c.if-not-in_level.false)
 
 pub returns : goal.returns
 unfolding first_outside
-returns c = sym (first_end _ _ _ c.loop-i.invariant.0 c.loop-i-test.false c.loop-i.invariant.1)
+returns c = sym (first_end _ _ _ c.loop-i.auto.i-end c.loop-i-test.false c.loop-i.invariant)
