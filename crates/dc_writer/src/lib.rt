@@ -69,9 +69,8 @@ pub fn write_dc(plane: u32, blocks: usize, values: &[i32], destination: &mut [u8
         destination.old destination.new result }
 {
     let o = try_write_dc(plane, blocks, values, destination);
-    if let Err(_) = o {
+    if o.is_err() {
         destination.fill(0);
-        return answers::answer_of(o);
     }
-    answers::answer_of(o)
+    Answer::from(o)
 }
