@@ -107,16 +107,15 @@ blocks_start blocks values = let k : blocks - 0 ≡ blocks = omega arith in rw k
 
 -- n quiet blocks were passed
 pub record Passed (blocks : ℕ) (values : List ℤ) (n : ℕ) : Type 0 where
-  pub within : n ≤ blocks
   pub same : n + quiet (kind_blocks (blocks - n) (drop (63 * n) values)) ≡ quiet (kind_blocks blocks values)
 
 pub passed_none : (blocks : ℕ) (values : List ℤ) → Passed blocks values 0
-passed_none blocks values = record { within = omega arith; same = omega (arith, ap quiet (blocks_start blocks values)) }
+passed_none blocks values = record { same = omega (arith, ap quiet (blocks_start blocks values)) }
 
 module _ {blocks : ℕ} {values : List ℤ} {n : ℕ} (p : Passed blocks values n) where
-  pub passed_all : blocks ≤ n → (n ≡ quiet (kind_blocks blocks values)) × (n ≤ blocks)
+  pub passed_all : n ≡ blocks → (blocks ≡ quiet (kind_blocks blocks values)) × (blocks ≤ blocks)
   unfolding quiet
-  passed_all h = (omega (arith, p.same, ap quiet (blocks_end blocks values n h)), p.within)
+  passed_all e = (omega (arith, p.same, ap quiet (blocks_end blocks values n (omega arith))), omega arith)
 
   module _ {part : List ℤ} (c : Coming) (h : n < blocks) (e : part ≡ take 63 (drop (63 * n) values)) (q : coming_is c ≡ ahead (kinds_from part 0)) where
     counted : quiet (kind_blocks (blocks - n) (drop (63 * n) values)) ≡ unless_new (coming_is c) (quiet (kind_blocks (blocks - (n + 1)) (drop (63 * (n + 1)) values)))
@@ -125,8 +124,8 @@ module _ {blocks : ℕ} {values : List ℤ} {n : ℕ} (p : Passed blocks values 
 
     pub passed_one : c ≡ Quiet → Passed blocks values (n + 1)
     unfolding coming_is
-    passed_one f = record { within = omega arith; same = omega (arith, p.same, rw f at counted) }
+    passed_one f = record { same = omega (arith, p.same, rw f at counted) }
 
     pub passed_new : {zeros : ℕ} {b : Bool} → c ≡ Value zeros b → (n ≡ quiet (kind_blocks blocks values)) × (n ≤ blocks)
     unfolding coming_is
-    passed_new f = (omega (arith, p.same, rw f at counted), p.within)
+    passed_new f = (omega (arith, p.same, rw f at counted), omega arith)

@@ -53,8 +53,7 @@ pub fn ahead_of(block: &[i32], from: usize) -> Coming
     ensures { coming_is result ≡ written.ahead (kinds_from block.now from) }
 {
     let mut zeros = 0;
-    let mut i = from;
-    while i < block.len() {
+    for i in from..block.len() {
         let value = block[i];
         if value == 1 {
             return Coming::Value(zeros, true);
@@ -63,7 +62,6 @@ pub fn ahead_of(block: &[i32], from: usize) -> Coming
             return Coming::Value(zeros, false);
         }
         zeros += zero_is(value);
-        i += 1;
     }
     Coming::Quiet
 }
@@ -73,16 +71,14 @@ fn quiet_of(later: &[i32], blocks: usize) -> usize
     requires { length later.now ≡ 63 * blocks }
     ensures { (result ≡ written.quiet (kind_blocks blocks later.now)) × (result ≤ blocks) }
 {
-    let mut n = 0;
-    while n < blocks {
+    for n in 0..blocks {
         let at = 63 * n;
         let end = at + 63;
         if let Coming::Value(_, _) = ahead_of(&later[at..end], 0) {
             return n;
         }
-        n += 1;
     }
-    n
+    blocks
 }
 
 // "the longest end run", "directly after the last new value"; "the 16-zero code only before a later new value"
