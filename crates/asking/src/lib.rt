@@ -43,18 +43,16 @@ fn read_number(word: &[u8], base: usize) -> Found
     requires { base ≤ 16 }
     ensures { result ≡ read_from base 0 word.now }
 {
-    let mut i: usize = 0;
     let mut value: usize = 0;
-    while i < word.len() {
+    for b in word {
         if 268435455 < value {
             return Found::Nothing;
         }
-        let d = digit(wide(word[i]));
+        let d = digit(wide(*b));
         if base <= d {
             return Found::Nothing;
         }
         value = value * base + d;
-        i += 1;
     }
     Found::At(value)
 }
