@@ -7,12 +7,6 @@ ghost use Rattle.asking.specs.Words.{digit as Words·digit};
 
 use laws::Found;
 
-fn wide(x: u8) -> usize
-    ensures { (result ≡ x) × (result < 256) }
-{
-    x as usize
-}
-
 // The value of a hexadecimal digit, or 255.
 fn digit(b: usize) -> usize
     ensures { (result ≡ Words·digit b) × (result < 256) }
@@ -48,7 +42,7 @@ fn read_number(word: &[u8], base: usize) -> Found
         if 268435455 < value {
             return Found::Nothing;
         }
-        let d = digit(wide(*b));
+        let d = digit(usize::from(*b));
         if base <= d {
             return Found::Nothing;
         }
@@ -63,7 +57,8 @@ pub fn type_of(word: &[u8]) -> Found
 {
     if word.len() == 4 {
         return Found::At(
-            ((wide(word[0]) * 256 + wide(word[1])) * 256 + wide(word[2])) * 256 + wide(word[3]),
+            ((usize::from(word[0]) * 256 + usize::from(word[1])) * 256 + usize::from(word[2])) * 256
+                + usize::from(word[3]),
         );
     }
     if word.len() == 8 {
