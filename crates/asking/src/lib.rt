@@ -71,7 +71,7 @@ pub fn type_of(word: &[u8]) -> Found
 pub fn instance_of(word: &[u8]) -> Found
     ensures { result ≡ instance_of word.now }
 {
-    if word.len() == 0 {
+    if word.is_empty() {
         return Found::Nothing;
     }
     match read_number(word, 10) {
