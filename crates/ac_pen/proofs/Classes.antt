@@ -34,9 +34,9 @@ class_here n m r h k e =
     let s : 14 - r ≡ suc (14 - (r + 1)) = omega arith in
     omega (arith, rw (s, lt-ltb m 2 k) at e)
 
-pub class_end : (n m r : ℕ) → r ≤ 14 → 14 ≤ r → r + order (14 - r) m ≡ class n → r ≡ class n
+pub class_end : (n m r : ℕ) → r ≡ 14 → r + order (14 - r) m ≡ class n → 14 ≡ class n
 unfolding order
-class_end n m r h k e = let s : 14 - r ≡ 0 = omega arith in omega (arith, rw s at e)
+class_end n m r h e = omega (arith, rw h at e)
 
 -- ---- the bits
 

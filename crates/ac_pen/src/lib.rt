@@ -68,15 +68,13 @@ fn class_of(n: usize) -> usize
     ensures { (result ≡ written.class n) × (result ≤ 14) }
 {
     let mut m = n;
-    let mut r = 0;
-    while r < 14 {
+    for r in 0..14 {
         if m < 2 {
             return r;
         }
         m /= 2;
-        r += 1;
     }
-    r
+    14
 }
 
 // "a run of 2^r + e blocks": its code, then the r low bits.

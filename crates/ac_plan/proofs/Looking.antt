@@ -13,7 +13,6 @@ use Rattle.bit_rules.specs.Digits.{odd}
 use Rattle.plane_rules.specs.AcRead.{cut}
 use Rattle.plane_rules.specs.AcWrite.{Kind, fresh, kind_of, ahead, one_more, quiet, unless_new}
 use Rattle.plane_rules.proofs.Halves.{kind_zero, kind_up, kind_down}
-use Rattle.ac_plan.specs.declared.Coming.{Coming}
 use Rattle.ac_plan.specs.Code.{kinds_from, kind_blocks, kind_is, still_is, coming_is}
 use Rattle.ac_plan.specs.declared.Change.{Change}
 use Rattle.ac_plan.specs.declared.Change.TheVariants.{Kept, Still, Fresh}
@@ -106,26 +105,25 @@ blocks_start blocks values = let k : blocks - 0 ≡ blocks = omega arith in rw k
 
 -- n quiet blocks were passed
 pub record Passed (blocks : ℕ) (values : List ℤ) (n : ℕ) : Type 0 where
-  pub within : n ≤ blocks
   pub same : n + quiet (kind_blocks (blocks - n) (drop (63 * n) values)) ≡ quiet (kind_blocks blocks values)
 
 pub passed_none : (blocks : ℕ) (values : List ℤ) → Passed blocks values 0
-passed_none blocks values = record { within = omega arith; same = omega (arith, ap quiet (blocks_start blocks values)) }
+passed_none blocks values = record { same = omega (arith, ap quiet (blocks_start blocks values)) }
 
 module _ {blocks : ℕ} {values : List ℤ} {n : ℕ} (p : Passed blocks values n) where
-  pub passed_all : blocks ≤ n → (n ≡ quiet (kind_blocks blocks values)) × (n ≤ blocks)
+  pub passed_all : n ≡ blocks → (blocks ≡ quiet (kind_blocks blocks values)) × (blocks ≤ blocks)
   unfolding quiet
-  passed_all h = (omega (arith, p.same, ap quiet (blocks_end blocks values n h)), p.within)
+  passed_all e = (omega (arith, p.same, ap quiet (blocks_end blocks values n (omega arith))), omega arith)
 
-  module _ {part : List ℤ} (c : Option Coming) (h : n < blocks) (e : part ≡ take 63 (drop (63 * n) values)) (q : coming_is c ≡ ahead (kinds_from part 0)) where
+  module _ {part : List ℤ} (c : Option (Option (ℕ × Bool))) (h : n < blocks) (e : part ≡ take 63 (drop (63 * n) values)) (q : coming_is c ≡ ahead (kinds_from part 0)) where
     counted : quiet (kind_blocks (blocks - n) (drop (63 * n) values)) ≡ unless_new (coming_is c) (quiet (kind_blocks (blocks - (n + 1)) (drop (63 * (n + 1)) values)))
     unfolding quiet
     counted = rw (blocks_cons blocks values n h e, q)
 
     pub passed_one : c ≡ None → Passed blocks values (n + 1)
     unfolding coming_is
-    passed_one f = record { within = omega arith; same = omega (arith, p.same, rw f at counted) }
+    passed_one f = record { same = omega (arith, p.same, rw f at counted) }
 
     pub passed_new : {zeros : ℕ} {b : Bool} → c ≡ Some (record { zeros = zeros; positive = b }) → (n ≡ quiet (kind_blocks blocks values)) × (n ≤ blocks)
     unfolding coming_is
-    passed_new f = (omega (arith, p.same, rw f at counted), p.within)
+    passed_new f = (omega (arith, p.same, rw f at counted), omega arith)

@@ -53,8 +53,7 @@ pub fn ahead_of(block: &[i32], from: usize) -> Option<Coming>
     ensures { coming_is result ≡ written.ahead (kinds_from block.now from) }
 {
     let mut zeros = 0;
-    let mut i = from;
-    while i < block.len() {
+    for i in from..block.len() {
         let value = block[i];
         if value == 1 {
             return Some(Coming {
@@ -69,7 +68,6 @@ pub fn ahead_of(block: &[i32], from: usize) -> Option<Coming>
             });
         }
         zeros += zero_is(value);
-        i += 1;
     }
     None
 }
@@ -79,16 +77,14 @@ fn quiet_of(later: &[i32], blocks: usize) -> usize
     requires { length later.now ≡ 63 * blocks }
     ensures { (result ≡ written.quiet (kind_blocks blocks later.now)) × (result ≤ blocks) }
 {
-    let mut n = 0;
-    while n < blocks {
+    for n in 0..blocks {
         let at = 63 * n;
         let end = at + 63;
         if let Some(_) = ahead_of(&later[at..end], 0) {
             return n;
         }
-        n += 1;
     }
-    n
+    blocks
 }
 
 // "the longest end run", "directly after the last new value"; "the 16-zero code only before a later new value"

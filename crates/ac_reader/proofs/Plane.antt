@@ -31,25 +31,26 @@ cut_length zero values = refl
 cut_length (suc n) values = ap suc (cut_length n (drop 63 values))
 
 -- behind so many blocks
-pub record Behind (bytes : List ℕ) (T : Table) (blocks : ℕ) (values before now : List ℤ) (task : Option Job) (c : Cursor) (block at : ℕ) : Type 0 where
-  pub within : block ≤ blocks
-  pub place : at ≡ 63 * block
+pub record Behind (bytes : List ℕ) (T : Table) (blocks : ℕ) (values before now : List ℤ) (task : Option Job) (c : Cursor) (block : ℕ) : Type 0 where
   pub long : length now ≡ length before
-  pub rest : drop at now ≡ drop at before
-  pub same : onto (take at now) (ac_blocks T block (open_of task) (cut (blocks - block) (drop at values)) (source_of bytes c)) ≡ ac_blocks T 0 None (cut blocks values) (start bytes)
+  pub rest : drop (63 * block) now ≡ drop (63 * block) before
+  pub same : onto (take (63 * block) now) (ac_blocks T block (open_of task) (cut (blocks - block) (drop (63 * block) values)) (source_of bytes c)) ≡ ac_blocks T 0 None (cut blocks values) (start bytes)
 
-pub behind_none : {bytes : List ℕ} {T : Table} {blocks : ℕ} {values before : List ℤ} → Behind bytes T blocks values before before None unread 0 0
-behind_none {bytes} {T} {blocks} {values} = let z : blocks - 0 ≡ blocks = omega arith in record { within = omega arith; place = omega arith; long = refl; rest = refl; same = rw (z, start_source bytes) (onto_none (ac_blocks T 0 None (cut blocks values) (start bytes))) }
+pub behind_none : {bytes : List ℕ} {T : Table} {blocks : ℕ} {values before : List ℤ} → Behind bytes T blocks values before before None unread 0
+behind_none {bytes} {T} {blocks} {values} = let z : blocks - 0 ≡ blocks = omega arith in record { long = refl; rest = refl; same = rw (z, start_source bytes) (onto_none (ac_blocks T 0 None (cut blocks values) (start bytes))) }
 
-module _ {bytes : List ℕ} {T : Table} {blocks : ℕ} {values before now : List ℤ} {task : (Option Job)} {c : Cursor} {block at : ℕ} (a : Behind bytes T blocks values before now task c block at) where
+module _ {bytes : List ℕ} {T : Table} {blocks : ℕ} {values before now : List ℤ} {task : (Option Job)} {c : Cursor} {block : ℕ} (a : Behind bytes T blocks values before now task c block) where
   abbrev whole : Plane
   whole = ac_blocks T 0 None (cut blocks values) (start bytes)
 
-  pub behind_all : blocks ≤ block → Ran bytes (63 * blocks) whole before now (Ok c)
+  abbrev at : ℕ
+  at = 63 * block
+
+  pub behind_all : block ≡ blocks → Ran bytes (63 * blocks) whole before now (Ok c)
   unfolding plane_of ac_blocks cut onto
   behind_all h =
       let z : blocks - block ≡ 0 = omega arith in
-      let e : at ≡ 63 * blocks = omega (arith, a.place, a.within) in
+      let e : at ≡ 63 * blocks = omega arith in
       let s : onto (take at now) (read [] (source_of bytes c)) ≡ whole = rw z at a.same in
       record {
         same = ap (λ (l : List ℤ). read l (source_of bytes c)) (sym (append-nil (take (63 * blocks) now))) ∙ subst (λ (k : ℕ). onto (take k now) (read [] (source_of bytes c)) ≡ whole) e s;
@@ -74,7 +75,7 @@ module _ {bytes : List ℕ} {T : Table} {blocks : ℕ} {values before now : List
 
     module _ (room : 63 * blocks ≤ length before) (part : List ℤ) (long : length part ≡ at + 63 - at) where
       fits : at + 63 ≤ length now
-      fits = omega (arith, a.place, a.long)
+      fits = omega (arith, a.long)
 
       behind_part : drop (at + 63) (put_mid at (at + 63 - at) now part) ≡ drop (at + 63) before
       behind_part = drop_put at (at + 63) now part (omega arith) fits long ∙ drop_later at (at + 63) (omega arith) now before a.rest
@@ -84,21 +85,21 @@ module _ {bytes : List ℕ} {T : Table} {blocks : ℕ} {values before now : List
       unfolding plane_of ac_blocks onto
       behind_stopped e = record {
         same = rw (next, left, e) at a.same;
-        kept = drop_later (at + 63) (63 * blocks) (omega (arith, a.place)) (put_mid at (at + 63 - at) now part) before behind_part;
+        kept = drop_later (at + 63) (63 * blocks) (omega arith) (put_mid at (at + 63 - at) now part) before behind_part;
       }
 
       pub behind_one : {after : (Option Job)} {d : Cursor} → ac_block T (blocks - block) (open_of task) (take (at + 63 - at) (drop at values)) (source_of bytes c) ≡ got (part, open_of after) (source_of bytes d)
-          → Behind bytes T blocks values before (put_mid at (at + 63 - at) now part) after d (block + 1) (at + 63)
+          → Behind bytes T blocks values before (put_mid at (at + 63 - at) now part) after d (block + 1)
       unfolding ac_blocks later
-      behind_one {after} {d} e = record {
-        within = omega arith;
-        place = omega (arith, a.place);
-        long = same_len_mid at (at + 63 - at) now part (long ∙ sym (mid_len at (at + 63) now fits)) ∙ a.long;
-        rest = behind_part;
-        same =
-            rw (take_put_end at (at + 63) now part (omega arith) fits long, add-one block)
-            (sym (onto_onto (take at now) part (ac_blocks T (suc block) (open_of after) (cut (blocks - suc block) (drop (at + 63) values)) (source_of bytes d))) ∙ (rw (next, left, e, add-one block) at a.same));
-      }
+      behind_one {after} {d} e =
+          let k : 63 * (block + 1) ≡ at + 63 = omega arith in
+          record {
+            long = same_len_mid at (at + 63 - at) now part (long ∙ sym (mid_len at (at + 63) now fits)) ∙ a.long;
+            rest = rw k behind_part;
+            same =
+                rw (k, take_put_end at (at + 63) now part (omega arith) fits long, add-one block)
+                (sym (onto_onto (take at now) part (ac_blocks T (suc block) (open_of after) (cut (blocks - suc block) (drop (at + 63) values)) (source_of bytes d))) ∙ (rw (next, left, e, add-one block) at a.same));
+          }
 
 -- ---- what a part is worth
 

@@ -82,9 +82,6 @@ module _ {bytes : List ℕ} {T : Table} {left : ℕ} {values now : List ℤ} {o�
 
 -- ---- the same of what the code comes to from a position on
 
-pub carries_none : {bytes : List ℕ} {values before : List ℤ} {o : Option Task} {c : Cursor} {i : ℕ} → Carries bytes values before before o o c c i i
-carries_none = record { long = λ l. l; same = λ T left o₀ c₀ a. a }
-
 module _ {bytes : List ℕ} {values before now : List ℤ} {o : Option Task} {t : Task} {c d : Cursor} {i j : ℕ} (k : Carries bytes values before now o (Some t) c d i j) where
   -- behind the last position
   pub carries_end : (r : Block) → length values ≤ j → block_of bytes [] r ≡ block_end (Some t) (source_of bytes d) → Closes bytes values before now o c i r

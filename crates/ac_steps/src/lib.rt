@@ -37,8 +37,7 @@ fn walk(
 {
     let mut cursor = c;
     let mut n = zeros;
-    let mut i = from;
-    while i < values.len() {
+    for i in from..values.len() {
         let v = values[i];
         if v == 0 {
             if n == 0 {
@@ -47,7 +46,6 @@ fn walk(
             }
             destination[i] = 0;
             n -= 1;
-            i += 1;
         } else {
             let f = ac_values::correct(data, v, cursor);
             match f {
@@ -55,7 +53,6 @@ fn walk(
                 Fixed::Now(w, next) => {
                     destination[i] = w;
                     cursor = next;
-                    i += 1;
                 }
             }
         }
@@ -77,12 +74,10 @@ fn rest(
     ensures { Steps «data».now values.now destination.old destination.new (Some (task.ended n)) c from result }
 {
     let mut cursor = c;
-    let mut i = from;
-    while i < values.len() {
+    for i in from..values.len() {
         let v = values[i];
         if v == 0 {
             destination[i] = 0;
-            i += 1;
         } else {
             let f = ac_values::correct(data, v, cursor);
             match f {
@@ -90,7 +85,6 @@ fn rest(
                 Fixed::Now(w, next) => {
                     destination[i] = w;
                     cursor = next;
-                    i += 1;
                 }
             }
         }

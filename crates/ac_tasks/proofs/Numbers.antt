@@ -1,8 +1,9 @@
 -- The loop that reads a number, a one moved up, and a correction on 32 bits. Assumes nothing.
-use mathlib.Core.Path.{◌≡◌, refl, ap, subst, ◌∙◌}
+use mathlib.Core.Path.{◌≡◌, refl, ap, ◌∙◌}
 use mathlib.Core.Bool.{Bool, true, false, true≢false}
 use mathlib.Core.List.{List}
 use Prim.Native.Nat.{ℕ, suc, ◌+◌, ◌-◌, ◌*◌, ◌%◌, ◌^◌, ◌≤◌, ◌<◌}
+use native.Mathlib.Numerals.{add-one}
 use native.Mathlib.Nat.{pow-suc, mod-eq_of_lt}
 use native.Mathlib.Omega.{arith}
 use lib.Pow.{pow_mono}
@@ -19,41 +20,33 @@ use Rattle.plane_rules.specs.AcRead.{corrected}
 use Rattle.ac_tasks.specs.Code.{number_of, Counts}
 use Rattle.ac_tasks.specs.declared.Number.TheVariants.{Is, Stopped}
 
--- ---- the loop: what is left to read gives what the whole gives
+-- ---- the loop: what is left to read behind i bits gives what the whole gives
 
-pub record Now (bytes : List ℕ) (n : ℕ) (c₀ c : Cursor) (v left : ℕ) : Type 0 where
-  pub within : left ≤ n
-  pub small : v < 2 ^ (n - left)
-  pub same : take_number left v (source_of bytes c) ≡ take_number n 0 (source_of bytes c₀)
+pub record Now (bytes : List ℕ) (n : ℕ) (c₀ c : Cursor) (v i : ℕ) : Type 0 where
+  pub small : v < 2 ^ i
+  pub same : take_number (n - i) v (source_of bytes c) ≡ take_number n 0 (source_of bytes c₀)
 
-pub now_first : {bytes : List ℕ} {n : ℕ} {c : Cursor} → Now bytes n c c 0 n
-now_first {bytes} {n} {c} = let z : n - n ≡ 0 = omega arith in record { within = omega arith; small = rw z (omega arith); same = refl }
+module _ {bytes : List ℕ} {n : ℕ} {c₀ c : Cursor} {v i : ℕ} (a : Now bytes n c₀ c v i) where
+  pub now_small : i < 15 → v < 32768
+  now_small h = omega (arith, a.small, pow_mono {i = i} {j = 15} (omega arith))
 
-module _ {bytes : List ℕ} {n : ℕ} {c₀ c : Cursor} {v left : ℕ} (a : Now bytes n c₀ c v left) where
-  pub now_small : n < 15 → v < 32768
-  now_small h = omega (arith, a.small, pow_mono {i = n - left} {j = 15} (omega arith))
-
-  pub now_end : left ≤ 0 → Counts bytes n c₀ (Is c v)
+  pub now_end : i ≡ n → Counts bytes n c₀ (Is c v)
   unfolding number_of take_number
-  now_end z =
-      let e : left ≡ 0 = omega arith in
-      let q : n - left ≡ n = omega arith in
-      let s : v < 2 ^ n = rw q at a.small in
-      record { same = rw e at a.same; small = λ w d i. let g : v ≡ w = cc in rw g at s }
+  now_end e =
+      let z : n - i ≡ 0 = omega arith in
+      record { same = rw z at a.same; small = λ w d q. let g : v ≡ w = cc in let s : v < 2 ^ n = rw e at a.small in rw g at s }
 
-  module _ (h : 0 < left) where
-    next : take_number (suc (left - 1)) v (source_of bytes c) ≡ take_number n 0 (source_of bytes c₀)
-    next = let e : left ≡ suc (left - 1) = omega arith in subst (λ (k : ℕ). take_number k v (source_of bytes c) ≡ take_number n 0 (source_of bytes c₀)) e a.same
+  module _ (h : i < n) where
+    next : take_number (suc (n - (i + 1))) v (source_of bytes c) ≡ take_number n 0 (source_of bytes c₀)
+    next = let e : n - i ≡ suc (n - (i + 1)) = omega arith in rw e at a.same
 
     pub now_stopped : {m : ℕ} {d : Cursor} → take_bit (source_of bytes c) ≡ stopped (stop m d.last) → Counts bytes n c₀ (Stopped m d)
     unfolding number_of take_number
-    now_stopped e = record { same = rw e at next; small = λ w d i. let z : ◌≡◌ {A = ℕ} 0 1 = cc in absurd (omega arith) }
+    now_stopped e = record { same = rw e at next; small = λ w d q. let z : ◌≡◌ {A = ℕ} 0 1 = cc in absurd (omega arith) }
 
-    pub now_turn : {b : Bool} {d : Cursor} → take_bit (source_of bytes c) ≡ got b (source_of bytes d) → Now bytes n c₀ d (2 * v + bin b) (left - 1)
+    pub now_turn : {b : Bool} {d : Cursor} → take_bit (source_of bytes c) ≡ got b (source_of bytes d) → Now bytes n c₀ d (2 * v + bin b) (i + 1)
     unfolding take_number
-    now_turn {b} {d} e =
-        let q : n - (left - 1) ≡ suc (n - left) = omega (arith, a.within) in
-        record { within = omega (arith, a.within); small = rw (q, pow-suc 2 (n - left)) (omega (arith, a.small, bin_small b)); same = rw e at next }
+    now_turn {b} {d} e = record { small = rw (add-one i, pow-suc 2 i) (omega (arith, a.small, bin_small b)); same = rw e at next }
 
 -- ---- a one moved up
 

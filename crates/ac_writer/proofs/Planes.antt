@@ -43,7 +43,6 @@ module _ (values : List ℤ) (n : ℕ) where
 
 -- behind n blocks, what is still to tell comes to what the plane comes to
 pub record Running (T : Table) (before memory : List ℕ) (q : State) (blocks : ℕ) (values : List ℤ) (n : ℕ) : Type 0 where
-  pub within : n ≤ blocks
   pub telling : Telling T before memory new_pen q.pen (write_blocks (open_of q.task) (kind_blocks (blocks - n) (drop (63 * n) values))) (tokens blocks values)
 
 all_tokens : (blocks : ℕ) (values : List ℤ) → write_blocks None (kind_blocks blocks values) ≡ tokens blocks values
@@ -61,10 +60,7 @@ plane_none o all e = rw e
 
 module _ {T : Table} {before : List ℕ} (blocks : ℕ) (values : List ℤ) where
   pub run_start : Running T before before (record { pen = new_pen; task = None }) blocks values 0
-  run_start = record {
-    within = omega arith;
-    telling = rw (blocks_start blocks values, all_tokens blocks values) (telling_start new_sound);
-  }
+  run_start = record { telling = rw (blocks_start blocks values, all_tokens blocks values) (telling_start new_sound) }
 
   module _ {memory : List ℕ} {q : State} {n : ℕ} (w : Running T before memory q blocks values n) where
     pub run_near : good_table T ≡ true → blocks ≤ 1024 → q.pen.putter.at < 2 ^ 59
@@ -75,10 +71,7 @@ module _ {T : Table} {before : List ℕ} (blocks : ℕ) (values : List ℤ) wher
     run_turn {after} {r} part rest h e f m =
         let later = kind_blocks (blocks - (n + 1)) rest in
         let k : kind_blocks (blocks - n) (drop (63 * n) values) ≡ kinds_from part 0 ∷ later = rw f (blocks_cons blocks values n h e) in
-        record {
-          within = omega arith;
-          telling = rw (m.task, ← f) (telling_turn (write_block (open_of q.task) (kinds_from part 0) later).0 _ (rw (plane_cons (open_of q.task) _ (kinds_from part 0) later k) at w.telling) m.told);
-        }
+        record { telling = rw (m.task, ← f) (telling_turn (write_block (open_of q.task) (kinds_from part 0) later).0 _ (rw (plane_cons (open_of q.task) _ (kinds_from part 0) later k) at w.telling) m.told) }
 
     pub run_end : blocks ≤ n → Told T before memory new_pen q.pen (tokens blocks values)
     run_end h = telling_end (rw (plane_none (open_of q.task) _ (blocks_end blocks values n h)) at w.telling)

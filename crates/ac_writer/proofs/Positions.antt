@@ -9,7 +9,7 @@ use lib.IntN.{ℤ, pos}
 use lib.ListN.{length, get_or, length-map, length-append}
 use Rattle.bit_putter.specs.Code.{Sound, Puts}
 use Rattle.bit_putter.specs.declared.Putter.{Putter}
-use Rattle.bit_putter.proofs.Putting.{puts_none, puts_then}
+use Rattle.bit_putter.proofs.Putting.{puts_then}
 use Rattle.bit_rules.specs.Table.{Table, good_table}
 use Rattle.plane_rules.specs.Task.{Task, walk, pass, over}
 use Rattle.plane_rules.specs.AcWrite.{Kind, keep, still, fresh, Token, raw, kind_of, plan, emit, choose, tell, write_block}
@@ -77,9 +77,6 @@ raw_append : (a b : List Bool) (more : List Token) → map raw (a ++ b) ++ more 
 raw_append [] b more = refl
 raw_append (x ∷ a) b more = ap (◌∷◌ (raw x)) (raw_append a b more)
 
-pub carries_none : {before : List ℕ} {p : Putter} {block : List ℤ} {o : Option Task} {i : ℕ} → Sound p → Carries before before p p block o o i i
-carries_none h = record { bits = []; put = puts_none h; few = omega arith; same = λ later. refl }
-
 module _ {before after : List ℕ} {p r : Putter} {block : List ℤ} {o : Option Task} {i j : ℕ} where
   pub carries_near : {o' : Option Task} → Carries before after p r block o o' i j → j ≤ length block → length block ≤ 63 → p.at < 2 ^ 61 → Sound r × (r.at < 2 ^ 62)
   carries_near k h l n = (k.put.sound, omega (arith, k.put.near, k.few))
@@ -111,7 +108,7 @@ module _ {before after : List ℕ} {p r : Putter} {block : List ℤ} {o : Option
           ∙ ap (λ (l : List Token). (l, (write_block (Some t) (kinds_from block (j + 1)) later).1)) (sym (raw_append k.bits (b ∷ []) (write_block (Some t) (kinds_from block (j + 1)) later).0));
     }
 
-    pub carries_still : change ≡ Still → Carries before after p r block o (pass t) i (j + 1)
+    carries_still : change ≡ Still → Carries before after p r block o (pass t) i (j + 1)
     unfolding kind_is
     carries_still c = record {
       bits = k.bits;
@@ -120,7 +117,7 @@ module _ {before after : List ℕ} {p r : Putter} {block : List ℤ} {o : Option
       same = λ later. k.same later ∙ ap (λ (x : List Token × Option Task). (map raw k.bits ++ x.0, x.1)) (open_still t (kinds_from block j) (kinds_from block (j + 1)) later (here c));
     }
 
-    pub carries_fresh : {b : Bool} → change ≡ Fresh b → Carries before after p r block o (pass t) i (j + 1)
+    carries_fresh : {b : Bool} → change ≡ Fresh b → Carries before after p r block o (pass t) i (j + 1)
     unfolding kind_is
     carries_fresh {b} c = record {
       bits = k.bits;
@@ -128,6 +125,15 @@ module _ {before after : List ℕ} {p r : Putter} {block : List ℤ} {o : Option
       few = omega (arith, k.few);
       same = λ later. k.same later ∙ ap (λ (x : List Token × Option Task). (map raw k.bits ++ x.0, x.1)) (open_fresh t b (kinds_from block j) (kinds_from block (j + 1)) later (here c));
     }
+
+    -- a zero that stays, or a new value
+    pub carries_other : ((b : Bool) → change ≡ Kept b → ⊥) → Carries before after p r block o (pass t) i (j + 1)
+    carries_other n = go change refl
+      where
+        go : (d : Change) → change ≡ d → Carries before after p r block o (pass t) i (j + 1)
+        go (Kept b) c = absurd (n b c)
+        go Still c = carries_still c
+        go (Fresh b) c = carries_fresh c
 
 -- the walk's count, one less or done
 pub walked : {before after : List ℕ} {p r : Putter} {block : List ℤ} {o : Option Task} {i j : ℕ} (n : ℕ) (sign : Option Bool)

@@ -70,37 +70,22 @@ fn walk(destination: &mut [u8], p: Putter, zeros: usize, from: usize, block: &[i
 {
     let mut q = p;
     let mut n = zeros;
-    let mut i = from;
-    while i < block.len() {
-        let change = ac_plan::kind_of(block[i]);
-        match change {
-            Change::Kept(bit) => {
-                q = bit_putter::put_bit(destination, q, bit);
-                i += 1;
-            }
-            Change::Still => {
-                if n == 0 {
-                    return Gone {
-                        putter: q,
-                        at: i + 1,
-                    };
-                }
-                n -= 1;
-                i += 1;
-            }
-            Change::Fresh(_) => {
-                if n == 0 {
-                    return Gone {
-                        putter: q,
-                        at: i + 1,
-                    };
-                }
-                n -= 1;
-                i += 1;
-            }
+    for i in from..block.len() {
+        if let Change::Kept(bit) = ac_plan::kind_of(block[i]) {
+            q = bit_putter::put_bit(destination, q, bit);
+        } else if n == 0 {
+            return Gone {
+                putter: q,
+                at: i + 1,
+            };
+        } else {
+            n -= 1;
         }
     }
-    Gone { putter: q, at: i }
+    Gone {
+        putter: q,
+        at: block.len(),
+    }
 }
 
 // The rest of a block in an end run: corrections alone.
@@ -112,19 +97,15 @@ fn rest(destination: &mut [u8], p: Putter, from: usize, block: &[i32]) -> Gone
         × (from < result.at) }
 {
     let mut q = p;
-    let mut i = from;
-    while i < block.len() {
-        let change = ac_plan::kind_of(block[i]);
-        match change {
-            Change::Kept(bit) => {
-                q = bit_putter::put_bit(destination, q, bit);
-                i += 1;
-            }
-            Change::Still => i += 1,
-            Change::Fresh(_) => i += 1,
+    for i in from..block.len() {
+        if let Change::Kept(bit) = ac_plan::kind_of(block[i]) {
+            q = bit_putter::put_bit(destination, q, bit);
         }
     }
-    Gone { putter: q, at: i }
+    Gone {
+        putter: q,
+        at: block.len(),
+    }
 }
 
 // A task from a position on.
@@ -198,6 +179,7 @@ fn put_block(
 {
     let mut s = state;
     let mut i = 0;
+    // A while: the position moves by what the task took, not by one.
     while i < block.len() {
         let b = begin(destination, entries, s, block, i, later, blocks);
         let told = b.pen;
@@ -238,8 +220,7 @@ fn put_blocks(
     let pen = Pen { putter, lack: None };
     let mut s = State { pen, task: None };
     let entries = code_entries::code_table(counts, codes);
-    let mut n = 0;
-    while n < blocks {
+    for n in 0..blocks {
         let at = 63 * n;
         let end = at + 63;
         let left = blocks - (n + 1);
@@ -251,7 +232,6 @@ fn put_blocks(
             &values[end..],
             left,
         );
-        n += 1;
     }
     s.pen
 }

@@ -5,11 +5,6 @@ ghost use Rattle.std.specs.Prelude.{◌≡◌, ◌≤◌, ◌<◌};
 ghost use Rattle.asking.specs.Words.{read_from, type_of, instance_of};
 ghost use Rattle.asking.specs.Words.{digit as Words·digit};
 
-fn wide(x: u8) -> usize
-    ensures { (result ≡ x) × (result < 256) }
-{
-    x as usize
-}
 
 // The value of a hexadecimal digit, or 255.
 fn digit(b: usize) -> usize
@@ -41,18 +36,16 @@ fn read_number(word: &[u8], base: usize) -> Option<usize>
     requires { base ≤ 16 }
     ensures { result ≡ read_from base 0 word.now }
 {
-    let mut i: usize = 0;
     let mut value: usize = 0;
-    while i < word.len() {
+    for b in word {
         if 268435455 < value {
             return None;
         }
-        let d = digit(wide(word[i]));
+        let d = digit(usize::from(*b));
         if base <= d {
             return None;
         }
         value = value * base + d;
-        i += 1;
     }
     Some(value)
 }
@@ -63,7 +56,8 @@ pub fn type_of(word: &[u8]) -> Option<usize>
 {
     if word.len() == 4 {
         return Some(
-            ((wide(word[0]) * 256 + wide(word[1])) * 256 + wide(word[2])) * 256 + wide(word[3]),
+            ((usize::from(word[0]) * 256 + usize::from(word[1])) * 256 + usize::from(word[2])) * 256
+                + usize::from(word[3]),
         );
     }
     if word.len() == 8 {
@@ -76,7 +70,7 @@ pub fn type_of(word: &[u8]) -> Option<usize>
 pub fn instance_of(word: &[u8]) -> Option<usize>
     ensures { result ≡ instance_of word.now }
 {
-    if word.len() == 0 {
+    if word.is_empty() {
         return None;
     }
     match read_number(word, 10) {

@@ -1,7 +1,7 @@
 // Whether a box can be handed out: 4 to 9 in their order (docs/RULES.md, P4 to P9, P12).
 #![tactic(auto)]
 
-ghost use Rattle.std.specs.Prelude.{◌≡◌};
+ghost use Rattle.std.specs.Prelude.{◌≡◌, Err};
 ghost use Rattle.answers.specs.Verdict.{refusal};
 ghost use Rattle.box_rules.specs.Numbers.{numbers};
 ghost use Rattle.box_rules.specs.Box.{assembled, box_bytes};

@@ -5,20 +5,12 @@ ghost use Rattle.std.specs.Prelude.{◌≡◌, ◌<◌, length, get_or};
 ghost use Rattle.laws.specs.Index.{tab};
 ghost use Rattle.test_rules.specs.Fields.{past, pair_at, number_at, part, lent, lowered, value_at, size_at};
 
-fn wide(x: u8) -> usize
-    ensures { (result ≡ x) × (result < 256) }
-{
-    x as usize
-}
-
 // The position n further on, or the end.
 pub fn past(length: usize, at: usize, n: usize) -> usize
     ensures { result ≡ past length at n }
 {
-    if at <= length {
-        if n <= length - at {
-            return at + n;
-        }
+    if at <= length && n <= length - at {
+        return at + n;
     }
     length
 }
@@ -28,7 +20,7 @@ pub fn byte_at(bytes: &[u8], at: usize) -> usize
     ensures { (result ≡ get_or bytes.now at 0) × (result < 256) }
 {
     if at < bytes.len() {
-        return wide(bytes[at]);
+        return usize::from(bytes[at]);
     }
     0
 }
@@ -86,12 +78,9 @@ pub fn values_at(bytes: &[u8], at: usize, list: &mut [i32])
     ensures { list.new ≡ tab (length list.old) (value_at bytes.now at) }
 {
     let mut next = at;
-    let mut i = 0;
-    while i < list.len() {
-        let value = lowered(number_at(bytes, next));
-        list[i] = value;
+    for value in list.iter_mut() {
+        *value = lowered(number_at(bytes, next));
         next = past(bytes.len(), next, 4);
-        i += 1;
     }
 }
 
@@ -100,11 +89,8 @@ pub fn sizes_at(bytes: &[u8], at: usize, list: &mut [u16])
     ensures { list.new ≡ tab (length list.old) (size_at bytes.now at) }
 {
     let mut next = at;
-    let mut i = 0;
-    while i < list.len() {
-        let size = pair_at(bytes, next);
-        list[i] = size as u16;
+    for size in list.iter_mut() {
+        *size = pair_at(bytes, next) as u16;
         next = past(bytes.len(), next, 2);
-        i += 1;
     }
 }

@@ -26,13 +26,11 @@ fn wanted_byte(expected: &[u8], number: usize, i: usize) -> u8
 pub fn first_wrong_byte(output: &[u8], expected: &[u8], number: usize) -> Option<usize>
     ensures { result ≡ first_fail (length output.now) (is_wanted eqb 0 7 output.now expected.now number) }
 {
-    let mut i = 0;
-    while i < output.len() {
+    for (i, got) in output.iter().enumerate() {
         let want = wanted_byte(expected, number, i);
-        if output[i] != want {
+        if *got != want {
             return Some(i);
         }
-        i += 1;
     }
     None
 }
@@ -40,10 +38,7 @@ pub fn first_wrong_byte(output: &[u8], expected: &[u8], number: usize) -> Option
 fn same_value(a: i32, b: i32) -> bool
     ensures { result ≡ same_value a b }
 {
-    if a <= b {
-        return b <= a;
-    }
-    false
+    a <= b && b <= a
 }
 
 // The same as `wanted_byte` for values.
@@ -63,13 +58,11 @@ fn wanted_value(expected: &[i32], number: usize, i: usize) -> i32
 pub fn first_wrong_value(output: &[i32], expected: &[i32], number: usize) -> Option<usize>
     ensures { result ≡ first_fail (length output.now) (is_wanted same_value (pos 0) (pos 7) output.now expected.now number) }
 {
-    let mut i = 0;
-    while i < output.len() {
+    for (i, got) in output.iter().enumerate() {
         let want = wanted_value(expected, number, i);
-        if !same_value(output[i], want) {
+        if !same_value(*got, want) {
             return Some(i);
         }
-        i += 1;
     }
     None
 }

@@ -1,11 +1,8 @@
--- What the loops of `ac_pen::class_of` keep, and what goes down.
+-- What the loop of `ac_pen::class_of` keeps.
 use mathlib.Core.Path.{◌≡◌}
-use Prim.Native.Nat.{◌+◌, ◌-◌, ◌≤◌}
+use Prim.Native.Nat.{◌+◌, ◌-◌}
 use Rattle.plane_rules.specs.AcWrite.{order, class}
 use Rattle.ac_pen.proofs.class_of.Given as goal
 
 abbrev pub invariant-loop-r : goal.invariant-loop-r
-invariant-loop-r l = (l.r ≤ 14) × (l.r + order (14 - l.r) l.m ≡ class l.n)
-
-abbrev pub decreases-loop-r : goal.decreases-loop-r
-decreases-loop-r l = 14 - l.r
+invariant-loop-r l = l.r + order (14 - l.r) l.m ≡ class l.n

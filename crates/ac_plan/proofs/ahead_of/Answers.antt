@@ -32,4 +32,4 @@ loop-i-preserved c = let v = get_or c.args.block.now c.loop-i.i (pos 0) in
     (look_on c.loop-i.invariant v c.loop-i-test.true refl (λ e. c.if-value-eq1.false (ap (of_z w32) e)) (λ e. c.if-value.false (ap (of_z w32) e)))
 
 pub returns : goal.returns
-returns c = look_end c.loop-i.invariant c.loop-i-test.false
+returns c = look_end c.loop-i.invariant (omega arith)

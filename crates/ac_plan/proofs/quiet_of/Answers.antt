@@ -26,4 +26,4 @@ pub loop-n-preserved : goal.loop-n-preserved
 loop-n-preserved c = passed_one c.loop-n.invariant _ c.loop-n-test.true refl (c.ahead_of.ensures ∙ block_at c.args.later.now c.loop-n.n) c.in_default.is
 
 pub returns : goal.returns
-returns c = passed_all c.loop-n.invariant c.loop-n-test.false
+returns c = passed_all c.loop-n.invariant (omega arith)

@@ -1,10 +1,6 @@
--- What the loops of `ac_plan::quiet_of` keep, and what goes down.
-use Prim.Native.Nat.{◌-◌}
+-- What the loop of `ac_plan::quiet_of` keeps.
 use Rattle.ac_plan.proofs.Looking.{Passed}
 use Rattle.ac_plan.proofs.quiet_of.Given as goal
 
 abbrev pub invariant-loop-n : goal.invariant-loop-n
 invariant-loop-n l = Passed l.blocks l.later l.n
-
-abbrev pub decreases-loop-n : goal.decreases-loop-n
-decreases-loop-n l = l.blocks - l.n

@@ -1,44 +1,29 @@
 -- `ac_reader::read_blocks` meets its contract: what is left to read, behind the values read so far, is the whole. Assumes nothing.
 use mathlib.Core.Path.{◌≡◌, sym, ap, ◌∙◌}
-use Prim.Native.Nat.{◌+◌, ◌-◌, ◌≤◌}
+use Prim.Native.Nat.{◌+◌, ◌-◌, ◌*◌}
 use lib.ListN.{length}
 use borrow.Rule.Slice.PartMut.{mid_len}
 use Rattle.ac_tasks.specs.Code.{block_of}
 use Rattle.ac_reader.proofs.Plane.{behind_none, behind_all, behind_stopped, behind_one, small_part}
 use native.Mathlib.Omega.{arith}
-use borrow.Author.Rules.{rules}
-use Rattle.ac_reader.proofs.read_blocks.Goals.{After-read_block-read, In-loop-block}
+use Rattle.ac_reader.proofs.read_blocks.Goals.{After-read_block-read}
 use Rattle.ac_reader.proofs.read_blocks.Goals as goal
 
--- the block lies within the values, and within the destination
-within : (c : In-loop-block) → c.loop-block.at + 63 ≤ length c.args.values.now
-within c = omega (arith, c.loop-block.invariant.place, c.requires.values_len)
-
-room : (c : In-loop-block) → c.loop-block.at + 63 ≤ length c.loop-block.destination
-room c = omega (arith, c.loop-block.invariant.place, c.loop-block.invariant.long, c.requires.blocks_in_bounds)
-
 -- as many values come back as were lent
-long : (c : After-read_block-read) → length c.read_block-read.new.destination ≡ c.loop-block.at + 63 - c.loop-block.at
-long c = c.read_block-read.auto.destination ∙ mid_len c.loop-block.at (c.loop-block.at + 63) c.loop-block.destination (omega (arith, c.loop-block.invariant.place, c.loop-block.invariant.long, c.requires.blocks_in_bounds))
+long : (c : After-read_block-read) → length c.read_block-read.new.destination ≡ 63 * c.loop-block.block + 63 - 63 * c.loop-block.block
+long c = c.read_block-read.auto.destination ∙ mid_len (63 * c.loop-block.block) (63 * c.loop-block.block + 63) c.loop-block.destination (omega (arith, c.loop-block.invariant.long, c.requires.blocks_in_bounds))
 
 pub loop-block-init : goal.loop-block-init
 loop-block-init c = behind_none
 
-pub overflow_add-end : goal.overflow_add-end
-overflow_add-end c = let here = goal.at.overflow_add-end c in
-    let h = within here.In-loop-block in search rules
-
-pub offset_bounds-values-at : goal.offset_bounds-values-at
-offset_bounds-values-at c = let here = goal.at.offset_bounds-values-at c in
-    let h = within here.In-loop-block in search rules
-
-pub offset_bounds-destination-at : goal.offset_bounds-destination-at
-offset_bounds-destination-at c = let here = goal.at.offset_bounds-destination-at c in
-    let h = within here.In-loop-block in search rules
-
 pub read_block-read-requires : goal.read_block-read-requires
-read_block-read-requires c = let here = goal.at.read_block-read-requires c in
-    record { codes_value = c.requires.codes_value; small = small_part c.loop-block.at (c.loop-block.at + 63 - c.loop-block.at) c.args.values.now c.requires.small; destination_len = mid_len c.loop-block.at (c.loop-block.at + 63) c.loop-block.destination (room here.In-loop-block) ∙ sym (mid_len c.loop-block.at (c.loop-block.at + 63) c.args.values.now (within here.In-loop-block)) }
+read_block-read-requires c = record {
+  codes_value = c.requires.codes_value;
+  small = small_part (63 * c.loop-block.block) (63 * c.loop-block.block + 63 - 63 * c.loop-block.block) c.args.values.now c.requires.small;
+  destination_len =
+      mid_len (63 * c.loop-block.block) (63 * c.loop-block.block + 63) c.loop-block.destination (omega (arith, c.loop-block.invariant.long, c.requires.blocks_in_bounds))
+      ∙ sym (mid_len (63 * c.loop-block.block) (63 * c.loop-block.block + 63) c.args.values.now (omega (arith, c.requires.values_len)));
+}
 
 pub returns-in-Stopped : goal.returns-in-Stopped
 unfolding block_of
@@ -51,4 +36,4 @@ loop-block-preserved c = let here = goal.at.loop-block-preserved c in
     behind_one c.loop-block.invariant c.loop-block-test.true c.requires.blocks_in_bounds _ (long here.After-read_block-read) (sym c.read_block-read.ensures ∙ ap (block_of _ _) c.in-Done.is)
 
 pub returns : goal.returns
-returns c = behind_all c.loop-block.invariant c.loop-block-test.false
+returns c = behind_all c.loop-block.invariant (omega arith)

@@ -6,19 +6,10 @@ use mir.Syntax.{w32}
 use mir.Val.{to_z, of_z}
 use Rattle.laws.proofs.Integers.{back}
 use Rattle.ac_values.specs.Code.{fixed_of}
-use Rattle.ac_steps.proofs.Positions.{carries_none, carries_end, carries_zero, carries_stopped, carries_fixed}
+use Rattle.ac_steps.proofs.Positions.{carries_end, carries_zero, carries_stopped, carries_fixed}
 use native.Mathlib.Omega.{arith}
+use Rattle.ac_steps.proofs.rest.Goals.{then-v-eq0, else-v-eq0+in-Now}
 use Rattle.ac_steps.proofs.rest.Goals as goal
-
-pub loop-i-init : goal.loop-i-init
-loop-i-init c = (c.requires.destination_len.1, carries_none)
-
-pub slice_set_of-destination : goal.slice_set_of-destination
-slice_set_of-destination c = omega (arith, c.loop-i.invariant.1.long c.requires.destination_len.0, c.loop-i-test.true)
-
-pub loop-i-preserved-then-v-eq0 : goal.loop-i-preserved-then-v-eq0
-loop-i-preserved-then-v-eq0 c = let old : to_z w32 (of_z w32 (get_or c.args.values.now c.loop-i.i (pos 0))) ≡ get_or c.args.values.now c.loop-i.i (pos 0) = back w32 _ c.v-1.given in
-    (omega (arith, c.loop-i-test.true), carries_zero c.loop-i.invariant.1 c.loop-i-test.true (sym (old) ∙ ap (to_z w32) c.if-v-eq0.true))
 
 pub correct-f-requires : goal.correct-f-requires
 correct-f-requires c = let old : to_z w32 (of_z w32 (get_or c.args.values.now c.loop-i.i (pos 0))) ≡ get_or c.args.values.now c.loop-i.i (pos 0) = back w32 _ c.v-1.given in
@@ -27,20 +18,18 @@ correct-f-requires c = let old : to_z w32 (of_z w32 (get_or c.args.values.now c.
 pub returns-in-Stopped : goal.returns-in-Stopped
 unfolding fixed_of
 returns-in-Stopped c = let old : to_z w32 (of_z w32 (get_or c.args.values.now c.loop-i.i (pos 0))) ≡ get_or c.args.values.now c.loop-i.i (pos 0) = back w32 _ c.v-1.given in
-    carries_stopped c.loop-i.invariant.1 c.loop-i-test.true (λ e. c.if-v-eq0.false (ap (of_z w32) e))
+    carries_stopped c.loop-i.invariant c.loop-i-test.true (λ e. c.if-v-eq0.false (ap (of_z w32) e))
     (rw (old) at (sym c.correct-f.ensures ∙ ap (fixed_of _) c.in-Stopped.is))
-
-pub bounds-destination-i : goal.bounds-destination-i
-bounds-destination-i c = omega (arith, c.loop-i.invariant.1.long c.requires.destination_len.0, c.loop-i-test.true)
 
 pub loop-i-preserved : goal.loop-i-preserved
 unfolding fixed_of
-loop-i-preserved c = let old : to_z w32 (of_z w32 (get_or c.args.values.now c.loop-i.i (pos 0))) ≡ get_or c.args.values.now c.loop-i.i (pos 0) = back w32 _ c.v-1.given in (
-  omega (arith, c.loop-i-test.true),
-  rw (back w32 _ c.in-Now.known_told-in-Now-1-own.given.0.1)
-      (carries_fixed c.loop-i.invariant.1 c.loop-i-test.true (λ e. c.if-v-eq0.false (ap (of_z w32) e))
-      (rw (old) at (sym c.correct-f.ensures ∙ ap (fixed_of _) c.in-Now.is))),
-)
+loop-i-preserved c = let old : to_z w32 (of_z w32 (get_or c.args.values.now c.loop-i.i (pos 0))) ≡ get_or c.args.values.now c.loop-i.i (pos 0) = back w32 _ c.v-1.given in
+    elim c.if-v-eq0.branch [
+      | then-v-eq0 w ↦ rw (w.destination-is, w.cursor-is) (carries_zero c.loop-i.invariant c.loop-i-test.true (sym (old) ∙ ap (to_z w32) w.if-v-eq0.true))
+      | else-v-eq0+in-Now w ↦ rw (w.destination-is, w.cursor-is, back w32 _ w.in-Now.known_told-in-Now-1-own.given.0.1)
+          (carries_fixed c.loop-i.invariant c.loop-i-test.true (λ e. w.if-v-eq0.false (ap (of_z w32) e))
+          (rw (old) at (sym w.correct-f.ensures ∙ ap (fixed_of _) w.in-Now.is)))
+    ]
 
 pub returns : goal.returns
-returns c = carries_end c.loop-i.invariant.1 _ c.loop-i-test.false (c.block_end.ensures.same _)
+returns c = carries_end c.loop-i.invariant _ (omega arith) (c.block_end.ensures.same _)

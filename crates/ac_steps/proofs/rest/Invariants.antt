@@ -1,13 +1,8 @@
--- What the loops of `ac_steps::rest` keep, and what goes down.
+-- What the loop of `ac_steps::rest` keeps.
 use Rattle.std.specs.Prelude.{Some}
-use Prim.Native.Nat.{◌-◌, ◌≤◌}
-use lib.ListN.{length}
 use Rattle.plane_rules.specs.Task as task
 use Rattle.ac_steps.specs.Code.{Carries}
 use Rattle.ac_steps.proofs.rest.Given as goal
 
 abbrev pub invariant-loop-i : goal.invariant-loop-i
-invariant-loop-i l = (l.i ≤ length l.values) × Carries l.data l.values l.initial.destination l.destination (Some (task.ended l.n)) (Some (task.ended l.n)) l.initial.cursor l.cursor l.from l.i
-
-abbrev pub decreases-loop-i : goal.decreases-loop-i
-decreases-loop-i l = length l.values - l.i
+invariant-loop-i l = Carries l.data l.values l.initial.destination l.destination (Some (task.ended l.n)) (Some (task.ended l.n)) l.initial.cursor l.cursor l.from l.i

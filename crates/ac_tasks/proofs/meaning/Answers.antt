@@ -13,15 +13,15 @@ returns-then-s-gt1 c = unused c.args.v _ _ _ c.if-s-gt1.true
 
 pub returns-then-r-lt15 : goal.returns-then-r-lt15
 unfolding meaning
-returns-then-r-lt15 c = rw (low_bits c.args.v 0 c.if-s-eq0.true, ← c.wide-r.ensures, lt-ltb _ 15 c.if-r-lt15.true) c.end_run.ensures
+returns-then-r-lt15 c = rw (low_bits c.args.v 0 c.if-s-eq0.true, ← c.from-r.ensures, lt-ltb _ 15 c.if-r-lt15.true) c.end_run.ensures
 
 pub returns-then-s-eq0 : goal.returns-then-s-eq0
 unfolding meaning asked_of
-returns-then-s-eq0 c = rw (low_bits c.args.v 0 c.if-s-eq0.true, ← c.wide-r.ensures, le-ltb _ 15 c.if-r-lt15.false)
+returns-then-s-eq0 c = rw (low_bits c.args.v 0 c.if-s-eq0.true, ← c.from-r.ensures, le-ltb _ 15 c.if-r-lt15.false)
 
 pub returns-in-Bit : goal.returns-in-Bit
 unfolding meaning asked_of taken_of
-returns-in-Bit c = rw (low_one c.args.v c.if-s-eq0.false c.if-s-gt1.false, sym c.bit_at-t.ensures ∙ ap (taken_of _) c.in-Bit.is, c.wide-r.ensures)
+returns-in-Bit c = rw (low_one c.args.v c.if-s-eq0.false c.if-s-gt1.false, sym c.bit_at-t.ensures ∙ ap (taken_of _) c.in-Bit.is, c.from-r.ensures)
 
 pub returns-in-Stopped : goal.returns-in-Stopped
 unfolding meaning asked_of taken_of

@@ -5,7 +5,7 @@ use Rattle.asking.proofs.type_of.Goals as goal
 
 pub returns-then-word-eq4 : goal.returns-then-word-eq4
 unfolding type_of
-returns-then-word-eq4 c = rw (eq-eqb _ _ c.if-word-eq4.true, ← c.wide.ensures.0, ← c.wide-then-word-eq4.ensures.0, ← c.wide-then-word-eq4-2.ensures.0, ← c.wide-then-word-eq4-3.ensures.0)
+returns-then-word-eq4 c = rw (eq-eqb _ _ c.if-word-eq4.true, ← c.from.ensures, ← c.from-then-word-eq4.ensures, ← c.from-then-word-eq4-2.ensures, ← c.from-then-word-eq4-3.ensures)
 
 pub returns-then-word-eq8 : goal.returns-then-word-eq8
 unfolding type_of

@@ -7,8 +7,5 @@ use Rattle.records.proofs.past.Goals as goal
 pub returns-then-n-length : goal.returns-then-n-length
 returns-then-n-length c = sym (on_inside _ _ _ (omega arith))
 
-pub returns-else-n-length : goal.returns-else-n-length
-returns-else-n-length c = sym (on_end _ _ _ (omega arith))
-
-pub returns-else-at-length : goal.returns-else-at-length
-returns-else-at-length c = sym (on_end _ _ _ (omega arith))
+pub returns : goal.returns
+returns c = sym (on_end _ _ _ (omega arith))

@@ -6,20 +6,17 @@ use lib.ListN.{length}
 use mir.Syntax.{w32}
 use Rattle.laws.proofs.Integers.{back}
 use Rattle.test_rules.specs.Fields.{lowered, number_at, value_at}
-use Rattle.records.proofs.Lists.{reading_start, reading_long, reading_turn, reading_end}
+use Rattle.records.proofs.Lists.{reading_start, reading_turn, reading_end}
 use Rattle.test_rules.proofs.Fields.{on_later, number_behind}
 use Rattle.records.proofs.values_at.Goals as goal
 
-pub loop-i-init : goal.loop-i-init
+pub loop-value-init : goal.loop-value-init
 unfolding value_at
-loop-i-init c = reading_start (λ k. refl)
+loop-value-init c = reading_start (λ k. refl)
 
-pub loop-i-smaller : goal.loop-i-smaller
-loop-i-smaller c = omega (arith, reading_long c.loop-i.invariant)
-
-pub loop-i-preserved : goal.loop-i-preserved
-loop-i-preserved c = reading_turn c.loop-i.invariant (omega (arith, reading_long c.loop-i.invariant)) (back w32 c.lowered-value.result c.lowered-value.type_inv ∙ c.lowered-value.ensures ∙ ap lowered c.number_at.ensures.0)
-    (λ k. rw c.past-next.ensures (on_later (λ p. lowered (number_at c.args.bytes.now p)) (lowered 0) (length c.args.bytes.now) c.loop-i.next 4 (4 * k) (λ p h. ap lowered (number_behind c.args.bytes.now p h))))
+pub loop-value-preserved : goal.loop-value-preserved
+loop-value-preserved c = reading_turn c.loop-value.invariant (omega arith) (back w32 c.lowered.result c.lowered.type_inv ∙ c.lowered.ensures ∙ ap lowered c.number_at.ensures.0)
+    (λ k. rw c.past-next.ensures (on_later (λ p. lowered (number_at c.args.bytes.now p)) (lowered 0) (length c.args.bytes.now) c.loop-value.next 4 (4 * k) (λ p h. ap lowered (number_behind c.args.bytes.now p h))))
 
 pub returns : goal.returns
-returns c = reading_end c.loop-i.invariant (omega (arith, reading_long c.loop-i.invariant))
+returns c = reading_end c.loop-value.invariant (omega arith)

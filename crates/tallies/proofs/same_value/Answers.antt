@@ -12,7 +12,7 @@ unfolding same_value
 returns-then-a-b c = let tested : le_z c.args.a c.args.b ≡ le_z (to_z w32 (of_z w32 c.args.a)) (to_z w32 (of_z w32 c.args.b)) = rw (to_z-of_z c.ranges.a, to_z-of_z c.ranges.b) in
     rw (to_z-of_z c.ranges.a, to_z-of_z c.ranges.b, tested ∙ c.if-a-b.true)
 
-pub returns : goal.returns
+pub returns-else-a-b : goal.returns-else-a-b
 unfolding same_value
-returns c = let tested : le_z c.args.a c.args.b ≡ le_z (to_z w32 (of_z w32 c.args.a)) (to_z w32 (of_z w32 c.args.b)) = rw (to_z-of_z c.ranges.a, to_z-of_z c.ranges.b) in
-    rw (tested ∙ c.if-a-b.false)
+returns-else-a-b c = let tested : le_z c.args.a c.args.b ≡ le_z (to_z w32 (of_z w32 c.args.a)) (to_z w32 (of_z w32 c.args.b)) = rw (to_z-of_z c.ranges.a, to_z-of_z c.ranges.b) in
+    rw (tested ∙ c.if-a-b.false) c.if-a-b.false
