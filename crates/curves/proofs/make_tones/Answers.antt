@@ -1,5 +1,4 @@
 -- `curves::make_tones` meets its contract: behind x turns the first x tones are there. Assumes nothing.
-use borrow.Author.Rules.{rules}
 use mathlib.Core.Path.{◌≡◌, subst}
 use Prim.Native.Nat.{◌+◌, ◌^◌}
 use native.Mathlib.Omega.{arith}
@@ -19,8 +18,8 @@ pub bounds-tones-x : goal.bounds-tones-x
 bounds-tones-x c = omega arith
 
 pub loop-x-preserved : goal.loop-x-preserved
-loop-x-preserved c = (search rules, (omega arith, tones_one c.loop-x.invariant.1.1 (omega (arith, c.power-entries.ensures)) c.tone-t.result c.tone-t.ensures))
+loop-x-preserved c = tones_one c.loop-x.invariant (omega (arith, c.power-entries.ensures)) c.tone-t.result c.tone-t.ensures
 
 pub returns : goal.returns
 returns c = let all : c.loop-x.x ≡ 2 ^ (8 + c.args.rh) = omega (arith, c.power-entries.ensures) in
-    subst (λ n. Tones c.args.rb c.args.rh n c.loop-x.tones) all c.loop-x.invariant.1.1
+    subst (λ n. Tones c.args.rb c.args.rh n c.loop-x.tones) all c.loop-x.invariant
