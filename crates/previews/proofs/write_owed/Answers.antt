@@ -13,12 +13,6 @@ use Rattle.previews.proofs.write_owed.Goals as goal
 pub loop-p-init : goal.loop-p-init
 loop-p-init c = sym (front_start c.args.destination.now (place_of c.args.owed.now))
 
-pub fold-requires : goal.fold-requires
-fold-requires c = omega arith
-
-pub fold-requires-in-loop-p : goal.fold-requires-in-loop-p
-fold-requires-in-loop-p c = omega arith
-
 pub overflow_mul-i : goal.overflow_mul-i
 overflow_mul-i c = let h : c.fold.result < 4 = rw c.fold.ensures (fold_small (c.loop-p.p / 8) (omega arith)) in
     search rules
@@ -33,9 +27,6 @@ pub bounds-owed-i : goal.bounds-owed-i
 bounds-owed-i c = let h : c.fold.result < 4 = rw c.fold.ensures (fold_small (c.loop-p.p / 8) (omega arith)) in
     let l : c.fold-in-loop-p.result < 4 = rw c.fold-in-loop-p.ensures (fold_small (c.loop-p.p % 8) (omega arith)) in
     omega (arith, c.requires.0)
-
-pub bounds-destination-p : goal.bounds-destination-p
-bounds-destination-p c = omega (arith, c.requires.1)
 
 pub loop-p-preserved : goal.loop-p-preserved
 loop-p-preserved c = let room : c.loop-p.p < length c.args.destination.now = omega (arith, c.requires.1) in
