@@ -57,8 +57,7 @@ fn show(data: &[u8], count: usize) {
         left: 0,
         byte: 0,
     };
-    let mut i = 0;
-    while i < count {
+    for _ in 0..count {
         let t = bits::reader::bit_at(data, c);
         match t {
             Taken::Bit(bit, next) => {
@@ -69,7 +68,6 @@ fn show(data: &[u8], count: usize) {
                 return say_stop(data, c, number as u64, stop.last);
             }
         }
-        i += 1;
     }
     say_end(data, c);
 }

@@ -41,12 +41,9 @@ fn weight(bytes: &[u8], at: usize) -> i16 {
 // As many of them as the list has.
 fn weights_at(bytes: &[u8], at: usize, list: &mut [i16]) {
     let mut next = at;
-    let mut i = 0;
-    while i < list.len() {
-        let w = weight(bytes, next);
-        list[i] = w;
+    for entry in list.iter_mut() {
+        *entry = weight(bytes, next);
         next = records::past(bytes.len(), next, 2);
-        i += 1;
     }
 }
 
@@ -59,10 +56,8 @@ fn write_samples(number: u32, place: u64, second: u64, destination: &[u16]) {
     write_number(number as u64);
     write_number(place);
     write_number(second);
-    let mut i = 0;
-    while i < destination.len() {
-        write_number(destination[i] as u64);
-        i += 1;
+    for &n in destination {
+        write_number(n as u64);
     }
     io::write_all(1, b"\n");
 }
@@ -77,10 +72,8 @@ fn write_values(number: u32, place: u64, second: u64, destination: &[i32]) {
     write_number(number as u64);
     write_number(place);
     write_number(second);
-    let mut i = 0;
-    while i < destination.len() {
-        write_number(lifted(destination[i]));
-        i += 1;
+    for &v in destination {
+        write_number(lifted(v));
     }
     io::write_all(1, b"\n");
 }
@@ -89,10 +82,8 @@ fn write_numbers(number: u32, place: u64, second: u64, destination: &[u32]) {
     write_number(number as u64);
     write_number(place);
     write_number(second);
-    let mut i = 0;
-    while i < destination.len() {
-        write_number(destination[i] as u64);
-        i += 1;
+    for &n in destination {
+        write_number(n as u64);
     }
     io::write_all(1, b"\n");
 }
@@ -253,10 +244,8 @@ fn run_preview(bytes: &[u8], at: usize) -> usize {
 fn run_merges(bytes: &[u8]) -> usize {
     let cases = records::number_at(bytes, 0);
     let mut at = 4;
-    let mut i = 0;
-    while i < cases {
+    for _ in 0..cases {
         at = run_merge(bytes, at);
-        i += 1;
     }
     at
 }
@@ -265,10 +254,8 @@ fn run_merges(bytes: &[u8]) -> usize {
 fn run_transforms(bytes: &[u8], start: usize) -> usize {
     let cases = records::number_at(bytes, start);
     let mut at = records::past(bytes.len(), start, 4);
-    let mut i = 0;
-    while i < cases {
+    for _ in 0..cases {
         at = run_transform(bytes, at);
-        i += 1;
     }
     at
 }
@@ -276,10 +263,8 @@ fn run_transforms(bytes: &[u8], start: usize) -> usize {
 fn run_previews(bytes: &[u8], start: usize) {
     let cases = records::number_at(bytes, start);
     let mut at = records::past(bytes.len(), start, 4);
-    let mut i = 0;
-    while i < cases {
+    for _ in 0..cases {
         at = run_preview(bytes, at);
-        i += 1;
     }
 }
 

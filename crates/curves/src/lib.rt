@@ -61,11 +61,9 @@ pub fn make_tones(rb: u32, rh: u32, tones: &mut [u16])
     ensures { Tones rb rh (2 ^ (8 + rh)) tones.new }
 {
     let entries = rounding::power(8 + rh) as usize;
-    let mut x = 0;
-    while x < entries {
+    for x in 0..entries {
         let t = tone(rb, rh, x as u16);
         tones[x] = t;
-        x += 1;
     }
 }
 

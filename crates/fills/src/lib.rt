@@ -74,11 +74,9 @@ fn fill_one(
     ensures { destination.new ≡ merged_picture s pixels base.now residual.now table.now
         ++ drop (samples s pixels) destination.old }
 {
-    let mut p = 0;
-    while p < pixels {
+    for p in 0..pixels {
         let v = one_at(s, pixels, base, residual, table, p);
         destination[p] = v;
-        p += 1;
     }
 }
 
@@ -96,15 +94,13 @@ fn fill_three(
     ensures { destination.new ≡ merged_picture s pixels base.now residual.now table.now
         ++ drop (samples s pixels) destination.old }
 {
-    let mut p = 0;
-    while p < pixels {
+    for p in 0..pixels {
         let v = three_at(s, pixels, base, residual, table, p);
         let q = pixels + p;
         let w = pixels + pixels + p;
         destination[p] = v.first;
         destination[q] = v.second;
         destination[w] = v.third;
-        p += 1;
     }
 }
 

@@ -40,10 +40,8 @@ fn row_sum(table: &[i64], s: &[i64], x: usize, y: usize, v: usize) -> i64
     ensures { result ≡ row_sum s.now x y v }
 {
     let mut sum: i64 = 0;
-    let mut u = 0;
-    while u < 8 {
-        sum = sum + product(table, s, x, y, v, u);
-        u += 1;
+    for u in 0..8 {
+        sum += product(table, s, x, y, v, u);
     }
     sum
 }
@@ -55,10 +53,8 @@ fn double_sum(table: &[i64], s: &[i64], x: usize, y: usize) -> i64
     ensures { result ≡ double_sum s.now x y }
 {
     let mut sum: i64 = 0;
-    let mut v = 0;
-    while v < 8 {
-        sum = sum + row_sum(table, s, x, y, v);
-        v += 1;
+    for v in 0..8 {
+        sum += row_sum(table, s, x, y, v);
     }
     sum
 }
@@ -95,11 +91,9 @@ fn write_samples(table: &[i64], s: &[i64], centre: i64, destination: &mut [i32],
     ensures { destination.new ≡ take at destination.old ++ block_samples s.now centre
         ++ drop (at + 64) destination.old }
 {
-    let mut p = 0;
-    while p < 64 {
+    for p in 0..64 {
         let w = sample(table, s, centre, p % 8, p / 8);
         destination[at + p] = w;
-        p += 1;
     }
 }
 

@@ -100,11 +100,9 @@ fn write_line(a: Answer, destination: &[u16]) {
     io::print_decimal(1, a.place as u64);
     io::write_all(1, b" ");
     io::print_decimal(1, a.second as u64);
-    let mut i = 0;
-    while i < destination.len() {
+    for &sample in destination {
         io::write_all(1, b" ");
-        io::print_decimal(1, destination[i] as u64);
-        i += 1;
+        io::print_decimal(1, sample as u64);
     }
     io::write_all(1, b"\n");
 }
@@ -155,10 +153,8 @@ fn run(bytes: &[u8], at: usize) -> usize {
 fn run_all(bytes: &[u8]) {
     let cases = records::number_at(bytes, 0);
     let mut at = 4;
-    let mut i = 0;
-    while i < cases {
+    for _ in 0..cases {
         at = run(bytes, at);
-        i += 1;
     }
 }
 

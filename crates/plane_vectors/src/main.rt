@@ -59,17 +59,13 @@ fn put(values: &mut [i32], place: usize, value: i32) {
 fn spread(bytes: &[u8], from: usize, entries: usize, values: &mut [i32]) -> usize {
     let mut at = from;
     let mut place = 0;
-    let mut i = 0;
-    while i < entries {
+    for _ in 0..entries {
         let e = entry_at(bytes, at);
         place = records::past(values.len(), place, e.gap);
         at = records::past(bytes.len(), at, e.size);
-        if e.gap == 255 {
-            i += 1;
-        } else {
+        if e.gap != 255 {
             put(values, place, e.value);
             place = records::past(values.len(), place, 1);
-            i += 1;
         }
     }
     at
@@ -235,10 +231,8 @@ fn half_of(ac: bool, v: i32) -> i32 {
 }
 
 fn halve(ac: bool, values: &[i32], halves: &mut [i32]) {
-    let mut i = 0;
-    while i < values.len() {
-        put(halves, i, half_of(ac, values[i]));
-        i += 1;
+    for (half, &v) in halves.iter_mut().zip(values) {
+        *half = half_of(ac, v);
     }
 }
 
@@ -385,7 +379,7 @@ fn run_record(bytes: &[u8], at: usize) -> Finding {
 
 fn run_all(bytes: &[u8]) {
     let mut run = tallies::begun(bytes);
-    while 0 < run.left {
+    for _ in 0..run.left {
         let ran = run_record(bytes, run.at);
         run = tallies::next_run(bytes, run, ran);
     }

@@ -46,11 +46,8 @@ fn fill_rows(order: &[usize], quantisers: &[u16], rows: &mut [u64])
     requires { (order.now ≡ zigzag_order) × (Quantised quantisers.now × (length rows.old ≡ 64)) }
     ensures { rows.new ≡ row_table quantisers.now }
 {
-    let mut p = 0;
-    while p < 64 {
-        let z = order[p];
+    for (p, &z) in order.iter().enumerate() {
         rows[p] = quantisers[z] as u64;
-        p += 1;
     }
 }
 
@@ -71,10 +68,8 @@ fn along(table: &[u64], numbers: &[u64], x: usize, v: usize) -> u64
     ensures { result ≡ along numbers.now x v }
 {
     let mut sum: u64 = 0;
-    let mut k = 0;
-    while k < 8 {
-        sum = sum + term(table, numbers, x, v, k);
-        k += 1;
+    for k in 0..8 {
+        sum += term(table, numbers, x, v, k);
     }
     sum
 }
@@ -85,11 +80,8 @@ fn fill_reaches(table: &[u64], rows: &[u64], reaches: &mut [u64])
     requires rows_len { (length rows.now ≡ 64) × (length reaches.old ≡ 32) }
     ensures { reaches.new ≡ reach_table rows.now }
 {
-    let mut p = 0;
-    while p < 32 {
-        let w = along(table, rows, p / 8, p % 8);
-        reaches[p] = w;
-        p += 1;
+    for (p, reach) in reaches.iter_mut().enumerate() {
+        *reach = along(table, rows, p / 8, p % 8);
     }
 }
 
@@ -109,12 +101,9 @@ fn fill_quarter(table: &[u64], reaches: &[u64], d: u64, owed: &mut [u32])
     requires le_d { (1 ≤ d) × ((d ≤ 16) × (length owed.old ≡ 16)) }
     ensures { owed.new ≡ quarter d reaches.now }
 {
-    let mut p = 0;
-    while p < 16 {
+    for (p, place) in owed.iter_mut().enumerate() {
         let w = along(table, reaches, p / 4, p % 4);
-        let n = owed_by(d, w);
-        owed[p] = n;
-        p += 1;
+        *place = owed_by(d, w);
     }
 }
 
@@ -134,11 +123,9 @@ fn write_owed(owed: &[u32], destination: &mut [u32])
     requires { (length owed.now ≡ 16) × (64 ≤ length destination.old) }
     ensures { destination.new ≡ unfolded owed.now ++ drop 64 destination.old }
 {
-    let mut p = 0;
-    while p < 64 {
+    for p in 0..64 {
         let i = fold(p / 8) * 4 + fold(p % 8);
         destination[p] = owed[i];
-        p += 1;
     }
 }
 

@@ -153,13 +153,10 @@ pub fn lengths_right(
 pub fn first_large(table: &[u16], most: u32) -> Option<usize>
     ensures { result ≡ first_fail (length table.now) (entry_right most table.now) }
 {
-    let mut i = 0;
-    while i < table.len() {
-        let entry = table[i] as u32;
-        if most < entry {
+    for (i, &entry) in table.iter().enumerate() {
+        if most < entry as u32 {
             return Some(i);
         }
-        i += 1;
     }
     None
 }

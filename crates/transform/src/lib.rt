@@ -49,13 +49,10 @@ fn dequantise(order: &[usize], values: &[i32], quantisers: &[u16], block: usize,
     requires block_in_bounds { (block * 64 + 64 ≤ length values.now) × (length quantisers.now ≡ 64) }
     ensures { s.new ≡ dequantised values.now quantisers.now block }
 {
-    let mut p = 0;
-    while p < 64 {
-        let z = order[p];
+    for (p, &z) in order.iter().enumerate() {
         let i = block * 64 + z;
         let w = times_quantiser(values[i], quantisers[z]);
         s[p] = w;
-        p += 1;
     }
 }
 
@@ -94,10 +91,8 @@ fn transform_picture(
         ++ drop (blocks * 64) destination.old }
 {
     let c = centre(refinement);
-    let mut block = 0;
-    while block < blocks {
+    for block in 0..blocks {
         transform_block(c, block, values, quantisers, destination);
-        block += 1;
     }
 }
 
@@ -105,22 +100,17 @@ fn transform_picture(
 fn is_quantiser(entry: u16) -> bool
     ensures { result ≡ is_quantiser entry }
 {
-    if entry < 1 {
-        return false;
-    }
-    entry <= 255
+    1 <= entry && entry <= 255
 }
 
 // The first index whose quantiser is not 1 to 255.
 pub fn first_bad_quantiser(quantisers: &[u16]) -> Option<usize>
     ensures { result ≡ first_bad_quantiser quantisers.now }
 {
-    let mut i = 0;
-    while i < quantisers.len() {
-        if !is_quantiser(quantisers[i]) {
+    for (i, &entry) in quantisers.iter().enumerate() {
+        if !is_quantiser(entry) {
             return Some(i);
         }
-        i += 1;
     }
     None
 }

@@ -92,7 +92,7 @@ fn run_record(bytes: &[u8], at: usize) -> Finding {
 
 fn run_all(bytes: &[u8]) {
     let mut run = tallies::begun(bytes);
-    while 0 < run.left {
+    for _ in 0..run.left {
         let ran = run_record(bytes, run.at);
         run = tallies::next_run(bytes, run, ran);
     }

@@ -1,26 +1,14 @@
 -- `curves::make_tones` meets its contract: behind x turns the first x tones are there. Assumes nothing.
-use borrow.Author.Rules.{rules}
 use mathlib.Core.Path.{◌≡◌, subst}
 use Prim.Native.Nat.{◌+◌, ◌^◌}
 use native.Mathlib.Omega.{arith}
-use lib.Pow.{pow_mono}
-use Rattle.rounding.proofs.Laws.{top_below}
 use Rattle.curves.specs.Code.{Tones}
 use Rattle.curves.proofs.Laws.{tones_one}
 use Rattle.curves.proofs.make_tones.Goals as goal
 
-pub overflow_cast-x : goal.overflow_cast-x
-overflow_cast-x c = omega (arith, top_below c.args.rh (omega arith), c.power-entries.ensures, pow_mono {i = 8 + c.args.rh} {j = 12} (omega arith))
-
-pub tone-t-requires : goal.tone-t-requires
-tone-t-requires c = (omega (arith, c.requires.0), (c.requires.1.0, omega (arith, c.power-entries.ensures)))
-
-pub bounds-tones-x : goal.bounds-tones-x
-bounds-tones-x c = omega arith
-
 pub loop-x-preserved : goal.loop-x-preserved
-loop-x-preserved c = (search rules, (omega arith, tones_one c.loop-x.invariant.1.1 (omega (arith, c.power-entries.ensures)) c.tone-t.result c.tone-t.ensures))
+loop-x-preserved c = tones_one c.loop-x.invariant (omega (arith, c.power-entries.ensures)) c.tone-t.result c.tone-t.ensures
 
 pub returns : goal.returns
 returns c = let all : c.loop-x.x ≡ 2 ^ (8 + c.args.rh) = omega (arith, c.power-entries.ensures) in
-    subst (λ n. Tones c.args.rb c.args.rh n c.loop-x.tones) all c.loop-x.invariant.1.1
+    subst (λ n. Tones c.args.rb c.args.rh n c.loop-x.tones) all c.loop-x.invariant

@@ -1,10 +1,6 @@
--- What the loops of `fills::fill_one` keep, and what goes down.
-use Prim.Native.Nat.{◌-◌}
+-- What the loop of `fills::fill_one` keeps.
 use Rattle.fills.proofs.Filling.{Filling}
 use Rattle.fills.proofs.fill_one.Given as goal
 
 abbrev pub invariant-loop-p : goal.invariant-loop-p
 invariant-loop-p l = Filling l.s l.pixels l.base l.residual l.table l.initial.destination l.destination l.p
-
-abbrev pub decreases-loop-p : goal.decreases-loop-p
-decreases-loop-p l = l.pixels - l.p

@@ -1,7 +1,7 @@
--- What the loops of `kernel::write_samples` keep, and what goes down.
+-- What the loop of `kernel::write_samples` keeps.
 use mathlib.Core.Path.{◌≡◌}
 use mathlib.Core.List.{List}
-use Prim.Native.Nat.{ℕ, ◌-◌, ◌/◌, ◌%◌, ◌≤◌}
+use Prim.Native.Nat.{ℕ, ◌/◌, ◌%◌}
 use lib.IntN.{ℤ}
 use Rattle.laws.proofs.Fill.{filled}
 use Rattle.transform_rules.specs.Samples.{sample}
@@ -12,7 +12,4 @@ abbrev pub sample-of : List ℤ → ℤ → ℕ → ℤ
 sample-of s centre p = sample s centre (p % 8) (p / 8)
 
 abbrev pub invariant-loop-p : goal.invariant-loop-p
-invariant-loop-p l = (l.p ≤ 64) × (l.destination ≡ filled l.initial.destination l.at (sample-of l.s l.centre) l.p)
-
-abbrev pub decreases-loop-p : goal.decreases-loop-p
-decreases-loop-p l = 64 - l.p
+invariant-loop-p l = l.destination ≡ filled l.initial.destination l.at (sample-of l.s l.centre) l.p

@@ -1,7 +1,7 @@
--- What the loops of `previews::fill_reaches` keep, and what goes down.
+-- What the loop of `previews::fill_reaches` keeps.
 use mathlib.Core.Path.{◌≡◌}
 use mathlib.Core.List.{List}
-use Prim.Native.Nat.{ℕ, ◌-◌, ◌/◌, ◌%◌, ◌≤◌}
+use Prim.Native.Nat.{ℕ, ◌/◌, ◌%◌}
 use Rattle.laws.proofs.Fill.{front}
 use Rattle.previews.specs.Code.{along}
 use Rattle.previews.proofs.fill_reaches.Given as goal
@@ -11,7 +11,4 @@ abbrev pub reach_of : List ℕ → ℕ → ℕ
 reach_of rows p = along rows (p / 8) (p % 8)
 
 abbrev pub invariant-loop-p : goal.invariant-loop-p
-invariant-loop-p l = (l.p ≤ 32) × (l.reaches ≡ front l.initial.reaches (reach_of l.rows) l.p)
-
-abbrev pub decreases-loop-p : goal.decreases-loop-p
-decreases-loop-p l = 32 - l.p
+invariant-loop-p l = l.reaches ≡ front l.initial.reaches (reach_of l.rows) l.p

@@ -1,23 +1,17 @@
 -- `previews::write_owed` meets its contract: behind p numbers the destination holds p of the block's. Assumes nothing.
 use borrow.Author.Rules.{rules}
-use mathlib.Core.Path.{◌≡◌, ap, sym, ◌∙◌}
+use mathlib.Core.Path.{◌≡◌, sym, ◌∙◌}
 use Prim.Native.Nat.{◌/◌, ◌%◌, ◌<◌}
 use native.Mathlib.Omega.{arith}
 use lib.ListN.{length}
-use Rattle.laws.proofs.Fill.{front_start, front_length, front_turn}
+use Rattle.laws.proofs.Fill.{front_start, front_turn}
 use Rattle.previews.specs.Code.{unfolded}
 use Rattle.previews.proofs.Tables.{fold_small}
 use Rattle.previews.proofs.write_owed.Invariants.{place_of}
 use Rattle.previews.proofs.write_owed.Goals as goal
 
 pub loop-p-init : goal.loop-p-init
-loop-p-init c = (search rules, sym (front_start c.args.destination.now (place_of c.args.owed.now)))
-
-pub fold-requires : goal.fold-requires
-fold-requires c = omega arith
-
-pub fold-requires-in-loop-p : goal.fold-requires-in-loop-p
-fold-requires-in-loop-p c = omega arith
+loop-p-init c = sym (front_start c.args.destination.now (place_of c.args.owed.now))
 
 pub overflow_mul-i : goal.overflow_mul-i
 overflow_mul-i c = let h : c.fold.result < 4 = rw c.fold.ensures (fold_small (c.loop-p.p / 8) (omega arith)) in
@@ -34,15 +28,11 @@ bounds-owed-i c = let h : c.fold.result < 4 = rw c.fold.ensures (fold_small (c.l
     let l : c.fold-in-loop-p.result < 4 = rw c.fold-in-loop-p.ensures (fold_small (c.loop-p.p % 8) (omega arith)) in
     omega (arith, c.requires.0)
 
-pub bounds-destination-p : goal.bounds-destination-p
-bounds-destination-p c = let long : length c.loop-p.destination ≡ length c.args.destination.now = ap length c.loop-p.invariant.1 ∙ front_length c.args.destination.now (place_of c.args.owed.now) c.loop-p.p (omega (arith, c.requires.1)) in
-    omega (arith, long, c.requires.1)
-
 pub loop-p-preserved : goal.loop-p-preserved
 loop-p-preserved c = let room : c.loop-p.p < length c.args.destination.now = omega (arith, c.requires.1) in
-    (search rules, rw (c.fold-in-loop-p.ensures, c.fold.ensures, c.loop-p.invariant.1) (front_turn c.args.destination.now (place_of c.args.owed.now) c.loop-p.p room))
+    rw (c.fold-in-loop-p.ensures, c.fold.ensures, c.loop-p.invariant) (front_turn c.args.destination.now (place_of c.args.owed.now) c.loop-p.p room)
 
 pub returns : goal.returns
 unfolding unfolded
 returns c = let e : c.loop-p.p ≡ 64 = omega arith in
-    c.loop-p.invariant.1 ∙ rw e
+    c.loop-p.invariant ∙ rw e

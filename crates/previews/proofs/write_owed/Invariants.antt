@@ -1,7 +1,7 @@
--- What the loops of `previews::write_owed` keep, and what goes down.
+-- What the loop of `previews::write_owed` keeps.
 use mathlib.Core.Path.{◌≡◌}
 use mathlib.Core.List.{List}
-use Prim.Native.Nat.{ℕ, ◌+◌, ◌-◌, ◌*◌, ◌/◌, ◌%◌, ◌≤◌}
+use Prim.Native.Nat.{ℕ, ◌+◌, ◌*◌, ◌/◌, ◌%◌}
 use lib.ListN.{get_or}
 use Rattle.laws.proofs.Fill.{front}
 use Rattle.previews.specs.Code.{fold}
@@ -12,7 +12,4 @@ abbrev pub place_of : List ℕ → ℕ → ℕ
 place_of owed p = get_or owed (fold (p / 8) * 4 + fold (p % 8)) 0
 
 abbrev pub invariant-loop-p : goal.invariant-loop-p
-invariant-loop-p l = (l.p ≤ 64) × (l.destination ≡ front l.initial.destination (place_of l.owed) l.p)
-
-abbrev pub decreases-loop-p : goal.decreases-loop-p
-decreases-loop-p l = 64 - l.p
+invariant-loop-p l = l.destination ≡ front l.initial.destination (place_of l.owed) l.p

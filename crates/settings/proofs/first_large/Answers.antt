@@ -4,7 +4,6 @@ use mathlib.Core.Path.{◌≡◌, sym}
 use mathlib.Core.Bool.{true, false}
 use mathlib.Core.List.{List}
 use Prim.Native.Nat.{ℕ, ◌≤◌, ◌<◌}
-use native.Mathlib.Omega.{arith}
 use lib.ListN.{length, get_or}
 use Rattle.laws.proofs.First.{first_start, first_more, first_found, first_end}
 use Rattle.merge_rules.specs.Settings.{entry_right}
@@ -20,13 +19,13 @@ module _ (most : ℕ) (table : List ℕ) (i : ℕ) where
   large h = lt-leb _ _ h
 
 pub loop-i-init : goal.loop-i-init
-loop-i-init c = (omega arith, first_start _)
+loop-i-init c = first_start _
 
 pub returns-then-most-entry : goal.returns-then-most-entry
-returns-then-most-entry c = sym (first_found _ (length c.args.table.now) c.loop-i.i c.loop-i-test.true c.loop-i.invariant.1 (large c.args.most c.args.table.now c.loop-i.i c.if-most-entry.true))
+returns-then-most-entry c = sym (first_found _ (length c.args.table.now) c.loop-i.i c.loop-i-test.true c.loop-i.invariant (large c.args.most c.args.table.now c.loop-i.i c.if-most-entry.true))
 
 pub loop-i-preserved : goal.loop-i-preserved
-loop-i-preserved c = (omega arith, first_more _ c.loop-i.i c.loop-i.invariant.1 (right c.args.most c.args.table.now c.loop-i.i c.if-most-entry.false))
+loop-i-preserved c = first_more _ c.loop-i.i c.loop-i.invariant (right c.args.most c.args.table.now c.loop-i.i c.if-most-entry.false)
 
 pub returns : goal.returns
-returns c = sym (first_end _ _ c.loop-i.i c.loop-i.invariant.0 c.loop-i-test.false c.loop-i.invariant.1)
+returns c = sym (first_end _ _ c.loop-i.i c.loop-i.auto.i-end c.loop-i-test.false c.loop-i.invariant)

@@ -7,10 +7,10 @@ use Rattle.laws.proofs.Tests.{every_last}
 use Rattle.transform_rules.specs.Call.{is_quantiser}
 use Rattle.transform.proofs.is_quantiser.Goals as goal
 
-pub returns-then-entry-lt1 : goal.returns-then-entry-lt1
+pub returns-else-entry-ge1 : goal.returns-else-entry-ge1
 unfolding is_quantiser every
-returns-then-entry-lt1 c = rw (lt-leb 1 c.args.entry c.if-entry-lt1.true)
+returns-else-entry-ge1 c = rw (lt-leb 1 c.args.entry c.if-entry-ge1.false)
 
-pub returns : goal.returns
+pub returns-then-entry-ge1 : goal.returns-then-entry-ge1
 unfolding is_quantiser every
-returns c = rw (le-leb 1 c.args.entry c.if-entry-lt1.false) (sym (every_last (leb c.args.entry 255)))
+returns-then-entry-ge1 c = rw (le-leb 1 c.args.entry c.if-entry-ge1.true) (sym (every_last (leb c.args.entry 255)))

@@ -1,34 +1,25 @@
 -- `transform::transform_picture` meets its contract: behind so many blocks the destination begins with their samples. Assumes nothing.
-use borrow.Author.Rules.{rules}
 use native.Mathlib.Omega.{arith}
-use mathlib.Core.Path.{◌≡◌, sym, ap, ◌∙◌}
-use Prim.Native.Nat.{◌≤◌}
-use lib.IntN.{nat_abs}
-use lib.ListN.{length}
+use mathlib.Core.Path.{◌≡◌, sym, ◌∙◌}
 use mir.Syntax.{w64}
 use mir.Val.{to_z, of_z}
 use Rattle.laws.proofs.Integers.{back}
-use Rattle.laws.proofs.Fill.{joined_start, joined_length, joined_turn}
+use Rattle.laws.proofs.Fill.{joined_start, joined_turn}
 use Rattle.transform_rules.specs.Picture.{picture}
 use Rattle.transform.proofs.Tables.{centre_small}
 use Rattle.transform.proofs.transform_picture.Invariants.{samples-of, each_long}
 use Rattle.transform.proofs.transform_picture.Goals as goal
 
 pub loop-block-init : goal.loop-block-init
-loop-block-init c = (search rules, sym (joined_start c.args.destination.now 64 (samples-of c.args.values.now c.args.quantisers.now (to_z w64 (of_z w64 c.centre-c.result))) (each_long c.args.values.now c.args.quantisers.now _)))
+loop-block-init c = sym (joined_start c.args.destination.now 64 (samples-of c.args.values.now c.args.quantisers.now (to_z w64 (of_z w64 c.centre-c.result))) (each_long c.args.values.now c.args.quantisers.now _))
 
-pub transform_block-requires : goal.transform_block-requires
-transform_block-requires c = let long : length c.loop-block.destination ≡ length c.args.destination.now = ap length c.loop-block.invariant.1 ∙ joined_length c.args.destination.now 64 (samples-of c.args.values.now c.args.quantisers.now (to_z w64 (of_z w64 c.centre-c.result))) (each_long c.args.values.now c.args.quantisers.now _) c.loop-block.block (omega arith) in
-    let z : nat_abs (to_z w64 (of_z w64 c.centre-c.result)) ≤ 2048 = rw (back w64 c.centre-c.result c.centre-c.type_inv, c.centre-c.ensures) (centre_small c.args.refinement c.requires.in_range.1) in
-    record { in_range = (c.requires.in_range.0, z); block_in_bounds = (omega arith, omega (arith, long)) }
-
-pub overflow_add-block : goal.overflow_add-block
-overflow_add-block c = omega (arith, c)
+pub transform_block-requires-clause-in_range : goal.transform_block-requires-clause-in_range
+transform_block-requires-clause-in_range c = (c.requires.in_range.0, rw (back w64 c.centre-c.result c.centre-c.type_inv, c.centre-c.ensures) (centre_small c.args.refinement c.requires.in_range.1))
 
 pub loop-block-preserved : goal.loop-block-preserved
-loop-block-preserved c = (omega arith, c.transform_block.ensures ∙ rw c.loop-block.invariant.1 (joined_turn c.args.destination.now 64 (samples-of c.args.values.now c.args.quantisers.now (to_z w64 (of_z w64 c.centre-c.result))) (each_long c.args.values.now c.args.quantisers.now _) c.loop-block.block))
+loop-block-preserved c = c.transform_block.ensures ∙ rw c.loop-block.invariant (joined_turn c.args.destination.now 64 (samples-of c.args.values.now c.args.quantisers.now (to_z w64 (of_z w64 c.centre-c.result))) (each_long c.args.values.now c.args.quantisers.now _) c.loop-block.block)
 
 pub returns : goal.returns
 unfolding picture
 returns c = let e : c.loop-block.block ≡ c.args.blocks = omega arith in
-    c.loop-block.invariant.1 ∙ rw (e, back w64 c.centre-c.result c.centre-c.type_inv, c.centre-c.ensures)
+    c.loop-block.invariant ∙ rw (e, back w64 c.centre-c.result c.centre-c.type_inv, c.centre-c.ensures)

@@ -1,7 +1,7 @@
--- What the loops of `transform::transform_picture` keep, and what goes down.
+-- What the loop of `transform::transform_picture` keeps.
 use mathlib.Core.Path.{◌≡◌}
 use mathlib.Core.List.{List}
-use Prim.Native.Nat.{ℕ, ◌-◌, ◌≤◌}
+use Prim.Native.Nat.{ℕ}
 use lib.IntN.{ℤ}
 use lib.ListN.{length}
 use Rattle.laws.proofs.Fill.{joined}
@@ -17,7 +17,4 @@ pub each_long : (values : List ℤ) (quantisers : List ℕ) (middle : ℤ) (bloc
 each_long values quantisers middle block = block_length (dequantised values quantisers block) middle
 
 abbrev pub invariant-loop-block : goal.invariant-loop-block
-invariant-loop-block l = (l.block ≤ l.blocks) × (l.destination ≡ joined l.initial.destination 64 (samples-of l.values l.quantisers l.c) (each_long l.values l.quantisers l.c) l.block)
-
-abbrev pub decreases-loop-block : goal.decreases-loop-block
-decreases-loop-block l = l.blocks - l.block
+invariant-loop-block l = l.destination ≡ joined l.initial.destination 64 (samples-of l.values l.quantisers l.c) (each_long l.values l.quantisers l.c) l.block

@@ -1,9 +1,0 @@
--- What the loops of `c_vectors::run_transforms` keep, and what goes down.
-use Prim.Native.Nat.{◌≤◌, ◌-◌}
-use Rattle.c_vectors.proofs.run_transforms.Given as goal
-
-abbrev pub invariant-loop-i : goal.invariant-loop-i
-invariant-loop-i l = 0 ≤ l.i
-
-abbrev pub decreases-loop-i : goal.decreases-loop-i
-decreases-loop-i l = l.cases - l.i
