@@ -13,6 +13,7 @@ use Rattle.bit_rules.specs.Digits.{odd}
 use Rattle.plane_rules.specs.AcRead.{cut}
 use Rattle.plane_rules.specs.AcWrite.{Kind, fresh, kind_of, ahead, one_more, quiet, unless_new}
 use Rattle.plane_rules.proofs.Halves.{kind_zero, kind_up, kind_down}
+use Rattle.ac_plan.specs.declared.Coming.{Coming}
 use Rattle.ac_plan.specs.Code.{kinds_from, kind_blocks, kind_is, still_is, coming_is}
 use Rattle.ac_plan.specs.declared.Change.{Change}
 use Rattle.ac_plan.specs.declared.Change.TheVariants.{Kept, Still, Fresh}
@@ -115,7 +116,7 @@ module _ {blocks : ℕ} {values : List ℤ} {n : ℕ} (p : Passed blocks values 
   unfolding quiet
   passed_all e = (omega (arith, p.same, ap quiet (blocks_end blocks values n (omega arith))), omega arith)
 
-  module _ {part : List ℤ} (c : Option (Option (ℕ × Bool))) (h : n < blocks) (e : part ≡ take 63 (drop (63 * n) values)) (q : coming_is c ≡ ahead (kinds_from part 0)) where
+  module _ {part : List ℤ} (c : Option Coming) (h : n < blocks) (e : part ≡ take 63 (drop (63 * n) values)) (q : coming_is c ≡ ahead (kinds_from part 0)) where
     counted : quiet (kind_blocks (blocks - n) (drop (63 * n) values)) ≡ unless_new (coming_is c) (quiet (kind_blocks (blocks - (n + 1)) (drop (63 * (n + 1)) values)))
     unfolding quiet
     counted = rw (blocks_cons blocks values n h e, q)

@@ -3,6 +3,7 @@ use Rattle.std.specs.Prelude.{◌≡◌, Bool, List, map, ℕ, ◌≤◌, ◌<�
 use Rattle.plane_rules.specs.Task.{Task}
 use Rattle.plane_rules.specs.AcRead.{cut}
 use Rattle.plane_rules.specs.AcWrite.{Kind, keep, still, fresh, kind_of}
+use Rattle.ac_plan.specs.declared.Coming.{Coming}
 use Rattle.ac_tasks.specs.Code.{task_of}
 use Rattle.ac_tasks.specs.declared.Job.{Job}
 use Rattle.ac_tasks.specs.declared.Job.TheVariants.{Leave, Set, Ended}
@@ -32,7 +33,7 @@ still_is (keep b) = 0
 still_is still = 1
 still_is (fresh b) = 0
 
-unfoldable pub coming_is : Option (Option (ℕ × Bool)) → Option (ℕ × Bool)
+unfoldable pub coming_is : Option Coming → Option (ℕ × Bool)
 coming_is (Some c) = Some (c.zeros, c.positive)
 coming_is None = None
 

@@ -308,9 +308,8 @@ pub fn write_ac(
         destination.old destination.new result }
 {
     let o = try_write_ac(plane, blocks, counts, codes, values, destination);
-    if let Err(_) = o {
+    if o.is_err() {
         destination.fill(0);
-        return answers::answer_of(o);
     }
-    answers::answer_of(o)
+    Answer::from(o)
 }

@@ -5,7 +5,6 @@ ghost use Rattle.std.specs.Prelude.{◌≡◌, ◌≤◌, ◌<◌};
 ghost use Rattle.asking.specs.Words.{read_from, type_of, instance_of};
 ghost use Rattle.asking.specs.Words.{digit as Words·digit};
 
-
 // The value of a hexadecimal digit, or 255.
 fn digit(b: usize) -> usize
     ensures { (result ≡ Words·digit b) × (result < 256) }

@@ -31,11 +31,8 @@ pub fn box_bytes(file: &[u8], kind: u32, instance: u16, destination: &mut [u8]) 
         destination.old destination.new result }
 {
     let o = try_box(file, kind, instance, destination);
-    match o {
-        Ok(_) => answers::answer_of(o),
-        Err(_) => {
-            destination.fill(0);
-            answers::answer_of(o)
-        }
+    if o.is_err() {
+        destination.fill(0);
     }
+    Answer::from(o)
 }

@@ -89,9 +89,8 @@ pub fn read_dc(
         destination.old destination.new result }
 {
     let o = try_read_dc(plane, blocks, data, values, destination);
-    if let Err(_) = o {
+    if o.is_err() {
         destination.fill(0);
-        return answers::answer_of(o);
     }
-    answers::answer_of(o)
+    Answer::from(o)
 }

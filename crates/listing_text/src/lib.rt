@@ -170,13 +170,10 @@ pub fn list_packets(file: &[u8], text: &mut [u8]) -> Answer
     ensures { Meets 0 (list_packets file.now (length text.old)) text.old text.new result }
 {
     let o = try_list(file, text);
-    match o {
-        Ok(_) => answers::answer_of(o),
-        Err(_) => {
-            text.fill(0);
-            answers::answer_of(o)
-        }
+    if o.is_err() {
+        text.fill(0);
     }
+    Answer::from(o)
 }
 
 // The line of an answer alone, at the front of a buffer, as far as there is room; and how long it is.

@@ -73,11 +73,8 @@ pub fn merge(
         destination.old destination.new result }
 {
     let tried = try_merge(s, pixels, base, residual, table, destination);
-    match tried {
-        Ok(_) => answers::answer_of(tried),
-        Err(_) => {
-            destination.fill(0);
-            answers::answer_of(tried)
-        }
+    if tried.is_err() {
+        destination.fill(0);
     }
+    answers::Answer::from(tried)
 }

@@ -185,9 +185,8 @@ pub fn preview_owes(left: u32, quantisers: &[u16], destination: &mut [u32]) -> A
         destination.old destination.new result }
 {
     let outcome = try_preview_owes(left, quantisers, destination);
-    if let Err(_) = outcome {
+    if outcome.is_err() {
         destination.fill(0);
-        return answers::answer_of(outcome);
     }
-    answers::answer_of(outcome)
+    Answer::from(outcome)
 }

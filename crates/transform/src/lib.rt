@@ -167,9 +167,8 @@ pub fn inverse_transform(
         destination.old destination.new result }
 {
     let outcome = try_inverse_transform(refinement, blocks, values, quantisers, destination);
-    if let Err(_) = outcome {
+    if outcome.is_err() {
         destination.fill(0);
-        return answers::answer_of(outcome);
     }
-    answers::answer_of(outcome)
+    Answer::from(outcome)
 }

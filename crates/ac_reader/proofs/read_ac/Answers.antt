@@ -1,9 +1,0 @@
--- `ac_reader::read_ac` meets its promise. Assumes nothing.
-use Rattle.answers.proofs.Laws.{meets_given, meets_refused}
-use Rattle.ac_reader.proofs.read_ac.Goals as goal
-
-pub returns-in-Err : goal.returns-in-Err
-returns-in-Err c = meets_refused c.try_read_ac-o.ensures c.in-Err.is c.answer_of.ensures c.try_read_ac-o.auto.destination (c.fill.ensures.after (λ y e. e))
-
-pub returns : goal.returns
-returns c = meets_given c.try_read_ac-o.ensures c.in_default.is c.answer_of-2.ensures
