@@ -12,7 +12,6 @@ use Rattle.std.specs.Prelude.{Some, None}
 use Rattle.laws.proofs.First.{first_found, all_pass}
 use Rattle.bit_rules.specs.Table.{holds, distinct}
 use Rattle.bit_rules.specs.Write.{place_of}
-use Rattle.bit_rules.proofs.Tables.{good}
 
 holds_at : (v : ℕ) (vs : List ℕ) (j : ℕ) → j < length vs → get_or vs j 0 ≡ v → holds v vs ≡ true
 unfolding holds

@@ -1,6 +1,5 @@
 -- `packets::mine_here` meets its contract.
 use mathlib.Core.Path.{ap, sym, ◌∙◌}
-use native.Mathlib.Omega.{arith}
 use Rattle.box_rules.specs.Packets.{is_mine}
 use Rattle.packets.proofs.Quick.{mine_packed}
 use Rattle.packets.proofs.mine_here.Goals as goal
