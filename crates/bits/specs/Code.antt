@@ -1,9 +1,11 @@
 -- What the code's cursor, the reader that holds its data, and answers stand for.
-use Rattle.std.specs.Prelude.{Bool, List, [], ◌∷◌, ℕ, zero, suc, ◌*◌, ◌/◌, ◌%◌, eqb, drop}
+use Rattle.std.specs.Prelude.{Bool, List, [], ◌∷◌, ℕ, zero, suc, ◌*◌, ◌/◌, ◌%◌, eqb, drop, Result, Ok, Err}
 use Rattle.std.specs.Borrow.{Bor}
 use Rattle.bit_rules.specs.Source.{Source, source, Out, got, stopped, stop}
 use Rattle.bits.specs.declared.Cursor.{Cursor}
 use Rattle.bits.specs.declared.reader.BitReader.{BitReader}
+use Rattle.bits.specs.declared.BitReader.{BitReader as Reader}
+use Rattle.bits.specs.declared.Stop.{Stop}
 use Rattle.bits.specs.declared.Taken.{Taken}
 use Rattle.bits.specs.declared.Taken.TheVariants.{Bit, Stopped}
 
@@ -40,3 +42,15 @@ reader_at bytes c = record { «data» = bytes; at = c.at; left = c.left; byte = 
 -- the cursor of a reader: with its data it stands for a source, by `source_of`
 abbrev pub cursor_of : BitReader → Cursor
 cursor_of r = record { at = r.at; left = r.left; byte = r.byte; last = r.last }
+
+-- the bits in a reader: any reader stands for a source
+unfoldable pub bits_in : Reader → Source
+bits_in r = source (highs r.left r.byte) (drop r.at r.«data».now) r.at r.last
+
+-- N15: what the code's answer stands for, with the reader behind it
+unfoldable pub read_as : {A B : Type 0} → (A → B) → Reader → Result A Stop → Out B
+read_as f r (Ok a) = got (f a) (bits_in r)
+read_as f r (Err s) = stopped (stop s.number s.offset)
+
+abbrev pub read_by : {A : Type 0} → Reader → Result A Stop → Out A
+read_by = read_as (λ a. a)

@@ -6,19 +6,16 @@ ghost use Rattle.std.specs.Prelude.{◌≤◌, length};
 
 use std::env::Env;
 
-fn file_room() -> [u8; 2097153] {
-    [0u8; 2097153]
-}
-
-fn box_room() -> [u8; 2097152] {
-    [0u8; 2097152]
+// A buffer of zeros: an array that a function makes is not written out in the proof of its caller.
+fn room<const N: usize>() -> [u8; N] {
+    [0u8; N]
 }
 
 // The reply to two words. The file's buffer takes one byte more than a file may have, so that a longer one is told.
 fn serve(type_word: &[u8], instance_word: &[u8]) {
-    let mut file = file_room();
+    let mut file = room::<2097153>();
     let n = io::read_full(0, &mut file);
-    let mut bytes = box_room();
+    let mut bytes = room::<2097152>();
     let r = desk::asked(type_word, instance_word, &file[..n], 2097152, &mut bytes);
     desk::say(1, 2, r, &bytes);
 }

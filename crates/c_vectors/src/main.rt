@@ -52,38 +52,27 @@ fn write_number(n: u64) {
     io::write_all(1, b" ");
 }
 
-fn write_samples(number: u32, place: u64, second: u64, destination: &[u16]) {
-    write_number(number as u64);
-    write_number(place);
-    write_number(second);
-    for &n in destination {
-        write_number(n as u64);
-    }
-    io::write_all(1, b"\n");
-}
-
 // A signed number with 2^31 added.
 fn lifted(v: i32) -> u64 {
     let w = rounding::wide(v) + 2147483648;
     w as u64
 }
 
-fn write_values(number: u32, place: u64, second: u64, destination: &[i32]) {
+// A line: what a call answered, and all that it left, each element as a number.
+fn write_line<T: Copy, F: Fn(T) -> u64>(
+    number: u32,
+    place: u64,
+    second: u64,
+    destination: &[T],
+    shown: F,
+)
+    requires { F.IsAlwaysCallable shown }
+{
     write_number(number as u64);
     write_number(place);
     write_number(second);
-    for &v in destination {
-        write_number(lifted(v));
-    }
-    io::write_all(1, b"\n");
-}
-
-fn write_numbers(number: u32, place: u64, second: u64, destination: &[u32]) {
-    write_number(number as u64);
-    write_number(place);
-    write_number(second);
-    for &n in destination {
-        write_number(n as u64);
+    for &element in destination {
+        write_number(shown(element));
     }
     io::write_all(1, b"\n");
 }
@@ -119,7 +108,7 @@ fn call_merge(
         &mut place,
         &mut second,
     );
-    write_samples(r, place, second, destination);
+    write_line(r, place, second, destination, u64::from);
 }
 
 // A case whose lists stand one behind the other; where the next case stands.
@@ -193,7 +182,7 @@ fn transformed(
         &mut place,
         &mut second,
     );
-    write_values(r, place, second, destination);
+    write_line(r, place, second, destination, lifted);
     next
 }
 
@@ -228,7 +217,7 @@ fn owed(bytes: &[u8], at: usize, quantisers: &mut [u16], destination: &mut [u32]
         &mut place,
         &mut second,
     );
-    write_numbers(r, place, second, destination);
+    write_line(r, place, second, destination, u64::from);
     next
 }
 
@@ -240,32 +229,15 @@ fn run_preview(bytes: &[u8], at: usize) -> usize {
     owed(bytes, at, &mut quantisers[0..nq], &mut destination[0..nd])
 }
 
-// As many merges as the first number says, and where the number of transforms stands.
-fn run_merges(bytes: &[u8]) -> usize {
-    let cases = records::number_at(bytes, 0);
-    let mut at = 4;
-    for _ in 0..cases {
-        at = run_merge(bytes, at);
+// As many cases as the number there says, each of which answers where the next one stands; where they end.
+fn run_cases<F: Fn(&[u8], usize) -> usize>(bytes: &[u8], start: usize, run: F) -> usize
+    requires { F.IsAlwaysCallable run }
+{
+    let mut at = records::past(bytes.len(), start, 4);
+    for _ in 0..records::number_at(bytes, start) {
+        at = run(bytes, at);
     }
     at
-}
-
-// As many transforms as the number there says, and where the number of previews stands.
-fn run_transforms(bytes: &[u8], start: usize) -> usize {
-    let cases = records::number_at(bytes, start);
-    let mut at = records::past(bytes.len(), start, 4);
-    for _ in 0..cases {
-        at = run_transform(bytes, at);
-    }
-    at
-}
-
-fn run_previews(bytes: &[u8], start: usize) {
-    let cases = records::number_at(bytes, start);
-    let mut at = records::past(bytes.len(), start, 4);
-    for _ in 0..cases {
-        at = run_preview(bytes, at);
-    }
 }
 
 // Room for the records: an array that a function makes is not written out in the proof of its caller.
@@ -276,7 +248,7 @@ fn file_room() -> [u8; 262144] {
 fn main() {
     let mut file = file_room();
     let n = io::read_full(0, &mut file);
-    let transforms = run_merges(&file[..n]);
-    let previews = run_transforms(&file[..n], transforms);
-    run_previews(&file[..n], previews);
+    let transforms = run_cases(&file[..n], 0, run_merge);
+    let previews = run_cases(&file[..n], transforms, run_transform);
+    run_cases(&file[..n], previews, run_preview);
 }
