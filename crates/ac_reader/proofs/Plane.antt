@@ -39,7 +39,7 @@ pub record Behind (bytes : List ℕ) (T : Table) (blocks : ℕ) (values before n
 pub behind_none : {bytes : List ℕ} {T : Table} {blocks : ℕ} {values before : List ℤ} → Behind bytes T blocks values before before None unread 0
 behind_none {bytes} {T} {blocks} {values} = let z : blocks - 0 ≡ blocks = omega arith in record { long = refl; rest = refl; same = rw (z, start_source bytes) (onto_none (ac_blocks T 0 None (cut blocks values) (start bytes))) }
 
-module _ {bytes : List ℕ} {T : Table} {blocks : ℕ} {values before now : List ℤ} {task : (Option Job)} {c : Cursor} {block : ℕ} (a : Behind bytes T blocks values before now task c block) where
+module _ {bytes : List ℕ} {T : Table} {blocks : ℕ} {values before now : List ℤ} {task : Option Job} {c : Cursor} {block : ℕ} (a : Behind bytes T blocks values before now task c block) where
   abbrev whole : Plane
   whole = ac_blocks T 0 None (cut blocks values) (start bytes)
 
@@ -88,7 +88,7 @@ module _ {bytes : List ℕ} {T : Table} {blocks : ℕ} {values before now : List
         kept = drop_later (at + 63) (63 * blocks) (omega arith) (put_mid at (at + 63 - at) now part) before behind_part;
       }
 
-      pub behind_one : {after : (Option Job)} {d : Cursor} → ac_block T (blocks - block) (open_of task) (take (at + 63 - at) (drop at values)) (source_of bytes c) ≡ got (part, open_of after) (source_of bytes d)
+      pub behind_one : {after : Option Job} {d : Cursor} → ac_block T (blocks - block) (open_of task) (take (at + 63 - at) (drop at values)) (source_of bytes c) ≡ got (part, open_of after) (source_of bytes d)
           → Behind bytes T blocks values before (put_mid at (at + 63 - at) now part) after d (block + 1)
       unfolding ac_blocks later
       behind_one {after} {d} e =

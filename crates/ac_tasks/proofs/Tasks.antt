@@ -27,7 +27,7 @@ over_on (suc n) h = rw sub-one
 
 -- ---- the end of a block
 
-module _ {task : (Option Job)} {c : Cursor} where
+module _ {task : Option Job} {c : Cursor} where
   pub ends_none : task ≡ None → BlockEnds task c (Done c None)
   unfolding block_end block_of
   ends_none e = rw e (record { same = λ bytes. refl })
@@ -37,7 +37,7 @@ module _ {task : (Option Job)} {c : Cursor} where
     unfolding block_end block_of source_of
     ends_walk q = record { same = λ bytes. rw (e, q) }
 
-    pub ends_run : {n : ℕ} {next : (Option Job)} → job ≡ Ended n → open_of next ≡ over (open_of (Some job)) → BlockEnds task c (Done c next)
+    pub ends_run : {n : ℕ} {next : Option Job} → job ≡ Ended n → open_of next ≡ over (open_of (Some job)) → BlockEnds task c (Done c next)
     unfolding block_end block_of
     ends_run q f = record { same = λ bytes. rw (e, f, q) }
 

@@ -10,10 +10,6 @@ fn say_number(number: u64) {
     io::print_decimal(1, number);
 }
 
-fn wide(byte: u8) -> u64 {
-    byte as u64
-}
-
 // The first `count` of the values, with codes of two bits, into `room` bytes.
 fn write_part(
     name: &[u8],
@@ -44,10 +40,10 @@ fn write_part(
     say_number(a.number as u64);
     say_number(a.place as u64);
     say_number(a.second as u64);
-    say_number(wide(destination[0]));
-    say_number(wide(destination[1]));
-    say_number(wide(destination[2]));
-    say_number(wide(destination[3]));
+    say_number(u64::from(destination[0]));
+    say_number(u64::from(destination[1]));
+    say_number(u64::from(destination[2]));
+    say_number(u64::from(destination[3]));
     say(b"\n");
 }
 

@@ -16,7 +16,7 @@ use Rattle.bits.specs.declared.Cursor.{Cursor}
 use Rattle.plane_rules.specs.Plane.{Plane, closed}
 use Rattle.planes.specs.Code.{plane_of, Ran, Closes}
 
-module _ {bytes : List ℕ} {count : ℕ} {ran : (Result Cursor Refusal)} where
+module _ {bytes : List ℕ} {count : ℕ} {ran : Result Cursor Refusal} where
   pub closes_refused : {r : Refusal} → ran ≡ Err r → Closes bytes count ran (Err r)
   unfolding closed plane_of
   closes_refused e = record { told = λ values n. rw e }
@@ -26,7 +26,7 @@ module _ {bytes : List ℕ} {count : ℕ} {ran : (Result Cursor Refusal)} where
     unfolding closed plane_of
     closes_given t = record { told = λ values n. rw (e, t, n) }
 
-    pub closes_left : {o : (Result ℕ Refusal)} {seen : ℕ} → only_padding (source_of bytes c) ≡ false → seen ≡ (source_of bytes c).seen → o ≡ Err (refusal 18 seen) → Closes bytes count ran o
+    pub closes_left : {o : Result ℕ Refusal} {seen : ℕ} → only_padding (source_of bytes c) ≡ false → seen ≡ (source_of bytes c).seen → o ≡ Err (refusal 18 seen) → Closes bytes count ran o
     unfolding closed plane_of
     closes_left t m q = record { told = λ values n. q ∙ rw (e, t, m) }
 
@@ -42,7 +42,7 @@ kept_values bytes values before (Ok c) count e = go (only_padding (source_of byt
     go false e = let z : ◌≡◌ {A = ℕ} 0 1 = cc in let y : ⊥ = omega arith in absurd y
 kept_values bytes values before (Err r) count e = let z : ◌≡◌ {A = ℕ} 0 1 = cc in let y : ⊥ = omega arith in absurd y
 
-pub closing : {bytes : List ℕ} {n : ℕ} {plane : Plane} {before after : List ℤ} {r : (Result Cursor Refusal)} {o : (Result ℕ Refusal)} → Ran bytes n plane before after r → n ≤ length after
+pub closing : {bytes : List ℕ} {n : ℕ} {plane : Plane} {before after : List ℤ} {r : Result Cursor Refusal} {o : Result ℕ Refusal} → Ran bytes n plane before after r → n ≤ length after
     → Closes bytes n r o → Tried (pos 0) (closed plane) before after o
 closing {bytes} {n} {plane} {before} {after} {r} {o} a h c =
     let l : length (take n after) ≡ n = length-take-le n after h in

@@ -14,14 +14,10 @@ fn say_number(number: u64) {
     io::print_decimal(1, number);
 }
 
-fn wide(byte: u8) -> u64 {
-    byte as u64
-}
-
 fn say_three(a: u8, b: u8, c: u8) {
-    say_number(wide(a));
-    say_number(wide(b));
-    say_number(wide(c));
+    say_number(u64::from(a));
+    say_number(u64::from(b));
+    say_number(u64::from(c));
 }
 
 // What LPTS and an instance give for a file, into `room` bytes.
