@@ -1,4 +1,4 @@
--- What `take_bit` and `only_padding` give at a cursor, case by case, in the terms that the code's tests leave. Assumes nothing.
+-- What `take_bit` and `only_padding` give of a reader, case by case, in the terms that the code's tests leave. Assumes nothing.
 use mathlib.Core.Path.{◌≡◌, refl, sym, ap, ◌∙◌}
 use mathlib.Core.List.{List, [], ◌∷◌}
 use mathlib.Core.Bool.{Bool, true, false}
@@ -13,15 +13,11 @@ use borrow.Author.Tests.{eq-eqb, ne_eqb}
 use Rattle.laws.specs.Index.{every}
 use Rattle.laws.proofs.Lists.{each}
 use Rattle.bit_rules.specs.Digits.{digits}
-use Rattle.bit_rules.specs.Source.{start, stopped, stop, take_bit, take_from, next_byte, after_ff, opened, no_byte, only_padding}
+use Rattle.bit_rules.specs.Source.{Out, stopped, stop, take_bit, take_from, next_byte, after_ff, opened, no_byte, only_padding}
 use Rattle.bit_rules.proofs.Digits.{moved_up}
-use Rattle.bits.specs.Code.{highs, top_of, unread, taken_of, source_of}
-use Rattle.bits.specs.declared.Cursor.{Cursor}
-
--- the unread cursor stands for data of which nothing was read
-pub start_source : (bytes : List ℕ) → source_of bytes unread ≡ start bytes
-unfolding source_of highs
-start_source bytes = refl
+use Rattle.std.specs.Prelude.{Ok}
+use Rattle.bits.specs.Code.{highs, bits_in, opened_at, read_as, read_by}
+use Rattle.bits.specs.declared.BitReader.{BitReader}
 
 -- ---- the bits of a byte from the top are its digits: one test over all bytes
 
@@ -50,58 +46,66 @@ highs_digits byte h = same_list (highs 8 byte) (digits 8 byte) (each 256 (λ v. 
 
 -- ---- a bit of the byte in hand
 
-held_bit : (bytes : List ℕ) (at n byte last : ℕ) → 0 < n → taken_of bytes (top_of at (n - 1) byte last) ≡ take_from (highs n byte) (drop at bytes) at last
-unfolding taken_of top_of take_from highs source_of
-held_bit bytes at zero byte last h = absurd (omega arith)
-held_bit bytes at (suc n) byte last h = rw sub-one
+-- the bit, and the reader behind it, when a byte was opened
+abbrev opened_bit : BitReader → ℕ → ℕ → ℕ → ℕ → Out Bool
+opened_bit r at left byte last = read_by (opened_at r at left byte last) (Ok (eqb (byte / 128) 1))
 
-pub held : (bytes : List ℕ) (c : Cursor) → 0 < c.left → taken_of bytes (top_of c.at (c.left - 1) c.byte c.last) ≡ take_bit (source_of bytes c)
-unfolding take_bit source_of
-held bytes c h = held_bit bytes c.at c.left c.byte c.last h
+held_bit : (r : BitReader) (at n byte last : ℕ) → 0 < n → opened_bit r at (n - 1) byte last ≡ take_from (highs n byte) (drop at r.«data».now) at last
+unfolding read_as take_from highs bits_in
+held_bit r at zero byte last h = absurd (omega arith)
+held_bit r at (suc n) byte last h = rw sub-one
 
 -- the first bit of a byte
-first_bit : (bytes : List ℕ) (at byte offset : ℕ) → byte < 256 → taken_of bytes (top_of at 7 byte offset) ≡ opened offset byte (drop at bytes) at
-unfolding taken_of top_of opened highs source_of digits
-first_bit bytes at byte offset h = let e = highs_digits byte h in cc
+first_bit : (r : BitReader) (at byte offset : ℕ) → byte < 256 → opened_bit r at 7 byte offset ≡ opened offset byte (drop at r.«data».now) at
+unfolding read_as opened highs bits_in digits
+first_bit r at byte offset h = let e = highs_digits byte h in cc
 
--- ---- none is in hand, and a byte is read
-module _ (bytes : List ℕ) (c : Cursor) (empty : c.left ≤ 0) where
-  next : take_bit (source_of bytes c) ≡ next_byte (drop c.at bytes) c.at
-  unfolding take_bit source_of highs take_from
-  next = let e : c.left ≡ 0 = omega arith in rw e
+module _ (r : BitReader) where
+  abbrev bytes : List ℕ
+  bytes = r.«data».now
 
-  pub at_end : length bytes ≤ c.at → stopped (stop 12 c.at) ≡ take_bit (source_of bytes c)
-  unfolding next_byte
-  at_end h = sym (next ∙ rw (drop_of_length-le bytes h))
+  pub held : 0 < r.left → opened_bit r r.at (r.left - 1) r.byte r.last ≡ take_bit (bits_in r)
+  unfolding take_bit bits_in
+  held h = held_bit r r.at r.left r.byte r.last h
 
-  module _ (more : c.at < length bytes) where
-    here : take_bit (source_of bytes c) ≡ next_byte (get_or bytes c.at 0 ∷ drop (c.at + 1) bytes) c.at
-    here = next ∙ rw (add-one, ← drop-cons bytes c.at 0)
+  -- ---- none is in hand, and a byte is read
+  module _ (empty : r.left ≤ 0) where
+    next : take_bit (bits_in r) ≡ next_byte (drop r.at bytes) r.at
+    unfolding take_bit bits_in highs take_from
+    next = let e : r.left ≡ 0 = omega arith in rw e
 
-    pub plain : get_or bytes c.at 0 < 256 → (get_or bytes c.at 0 ≡ 255 → ⊥) → taken_of bytes (top_of (c.at + 1) 7 (get_or bytes c.at 0) c.at) ≡ take_bit (source_of bytes c)
+    pub at_end : length bytes ≤ r.at → stopped (stop 12 r.at) ≡ take_bit (bits_in r)
     unfolding next_byte
-    plain small ne = first_bit bytes (c.at + 1) (get_or bytes c.at 0) c.at small ∙ sym (here ∙ rw (ne_eqb _ _ ne))
+    at_end h = sym (next ∙ rw (drop_of_length-le bytes h))
 
-    module _ (ff : get_or bytes c.at 0 ≡ 255) where
-      escaped : take_bit (source_of bytes c) ≡ after_ff (drop (c.at + 1) bytes) c.at
+    module _ (more : r.at < length bytes) where
+      here : take_bit (bits_in r) ≡ next_byte (get_or bytes r.at 0 ∷ drop (r.at + 1) bytes) r.at
+      here = next ∙ rw (add-one, ← drop-cons bytes r.at 0)
+
+      pub plain : get_or bytes r.at 0 < 256 → (get_or bytes r.at 0 ≡ 255 → ⊥) → opened_bit r (r.at + 1) 7 (get_or bytes r.at 0) r.at ≡ take_bit (bits_in r)
       unfolding next_byte
-      escaped = here ∙ rw (eq-eqb _ _ ff)
+      plain small ne = first_bit r (r.at + 1) (get_or bytes r.at 0) r.at small ∙ sym (here ∙ rw (ne_eqb _ _ ne))
 
-      pub ff_end : length bytes ≤ c.at + 1 → stopped (stop 12 (c.at + 1)) ≡ take_bit (source_of bytes c)
-      unfolding after_ff
-      ff_end h = sym (escaped ∙ rw (drop_of_length-le bytes h))
+      module _ (ff : get_or bytes r.at 0 ≡ 255) where
+        escaped : take_bit (bits_in r) ≡ after_ff (drop (r.at + 1) bytes) r.at
+        unfolding next_byte
+        escaped = here ∙ rw (eq-eqb _ _ ff)
 
-      module _ (two : c.at + 1 < length bytes) where
-        pair : take_bit (source_of bytes c) ≡ after_ff (get_or bytes (c.at + 1) 0 ∷ drop (c.at + 2) bytes) c.at
-        pair = let e : suc (c.at + 1) ≡ c.at + 2 = omega arith in escaped ∙ rw (drop-cons bytes (c.at + 1) 0, e)
-
-        pub ff_marker : (get_or bytes (c.at + 1) 0 ≡ 0 → ⊥) → stopped (stop 13 c.at) ≡ take_bit (source_of bytes c)
+        pub ff_end : length bytes ≤ r.at + 1 → stopped (stop 12 (r.at + 1)) ≡ take_bit (bits_in r)
         unfolding after_ff
-        ff_marker ne = let e : get_or bytes (c.at + 1) 0 ≡ suc (get_or bytes (c.at + 1) 0 - 1) = omega arith in sym (pair ∙ rw e)
+        ff_end h = sym (escaped ∙ rw (drop_of_length-le bytes h))
 
-        pub ff_zero : get_or bytes (c.at + 1) 0 ≡ 0 → taken_of bytes (top_of (c.at + 2) 7 255 c.at) ≡ take_bit (source_of bytes c)
-        unfolding after_ff
-        ff_zero z = first_bit bytes (c.at + 2) 255 c.at (omega arith) ∙ sym (pair ∙ rw z)
+        module _ (two : r.at + 1 < length bytes) where
+          pair : take_bit (bits_in r) ≡ after_ff (get_or bytes (r.at + 1) 0 ∷ drop (r.at + 2) bytes) r.at
+          pair = let e : suc (r.at + 1) ≡ r.at + 2 = omega arith in escaped ∙ rw (drop-cons bytes (r.at + 1) 0, e)
+
+          pub ff_marker : (get_or bytes (r.at + 1) 0 ≡ 0 → ⊥) → stopped (stop 13 r.at) ≡ take_bit (bits_in r)
+          unfolding after_ff
+          ff_marker ne = let e : get_or bytes (r.at + 1) 0 ≡ suc (get_or bytes (r.at + 1) 0 - 1) = omega arith in sym (pair ∙ rw e)
+
+          pub ff_zero : get_or bytes (r.at + 1) 0 ≡ 0 → opened_bit r (r.at + 2) 7 255 r.at ≡ take_bit (bits_in r)
+          unfolding after_ff
+          ff_zero z = first_bit r (r.at + 2) 255 r.at (omega arith) ∙ sym (pair ∙ rw z)
 
 -- ---- the padding
 
@@ -128,11 +132,11 @@ none_left [] (suc at) = leb-zero (suc at)
 none_left (x ∷ bytes) zero = leb-suc-zero (length bytes)
 none_left (x ∷ bytes) (suc at) = leb-suc-suc (length bytes) at ∙ none_left bytes at
 
-module _ (bytes : List ℕ) (c : Cursor) (t : Bool) (e : t ≡ every (highs c.left c.byte)) where
-  pub padding_yes : t ≡ true → leb (length bytes) c.at ≡ only_padding (source_of bytes c)
-  unfolding only_padding source_of
-  padding_yes h = let f : every (highs c.left c.byte) ≡ true = sym e ∙ h in none_left bytes c.at ∙ rw f
+module _ (r : BitReader) (t : Bool) (e : t ≡ every (highs r.left r.byte)) where
+  pub padding_yes : t ≡ true → leb (length r.«data».now) r.at ≡ only_padding (bits_in r)
+  unfolding only_padding bits_in
+  padding_yes h = let f : every (highs r.left r.byte) ≡ true = sym e ∙ h in none_left r.«data».now r.at ∙ rw f
 
-  pub padding_no : t ≡ false → false ≡ only_padding (source_of bytes c)
-  unfolding only_padding source_of
-  padding_no h = let f : every (highs c.left c.byte) ≡ false = sym e ∙ h in rw f
+  pub padding_no : t ≡ false → false ≡ only_padding (bits_in r)
+  unfolding only_padding bits_in
+  padding_no h = let f : every (highs r.left r.byte) ≡ false = sym e ∙ h in rw f
