@@ -1,7 +1,6 @@
 -- The loop that reads a number, a one moved up, and a correction on 32 bits. Assumes nothing.
 use mathlib.Core.Path.{◌≡◌, refl, ap, ◌∙◌}
 use mathlib.Core.Bool.{Bool, true, false, true≢false}
-use mathlib.Core.List.{List}
 use Prim.Native.Nat.{ℕ, suc, ◌+◌, ◌-◌, ◌*◌, ◌%◌, ◌^◌, ◌≤◌, ◌<◌}
 use native.Mathlib.Numerals.{add-one}
 use native.Mathlib.Nat.{pow-suc, mod-eq_of_lt}
@@ -11,42 +10,33 @@ use lib.IntN.{ℤ, pos, negsuc, neg_ℤ, ◌+ℤ◌, ◌-ℤ◌, ◌*ℤ◌, +�
 use lib.Signed.{lt_z}
 use borrow.Author.Tests.{ltb-true}
 use Rattle.bit_rules.specs.Digits.{bin}
-use Rattle.bit_rules.specs.Source.{got, stopped, stop, take_bit}
-use Rattle.bits.specs.Code.{source_of}
-use Rattle.bits.specs.declared.Cursor.{Cursor}
+use Rattle.bit_rules.specs.Source.{Source, Stop, got, stopped, take_bit}
 use Rattle.bit_rules.proofs.Digits.{bin_small}
 use Rattle.bit_rules.specs.Number.{take_number}
 use Rattle.plane_rules.specs.AcRead.{corrected}
-use Rattle.ac_tasks.specs.Code.{number_of, Counts}
-use Rattle.ac_tasks.specs.declared.Number.TheVariants.{Is, Stopped}
 
 -- ---- the loop: what is left to read behind i bits gives what the whole gives
 
-pub record Now (bytes : List ℕ) (n : ℕ) (c₀ c : Cursor) (v i : ℕ) : Type 0 where
+pub record Now (n : ℕ) (s₀ s : Source) (v i : ℕ) : Type 0 where
   pub small : v < 2 ^ i
-  pub same : take_number (n - i) v (source_of bytes c) ≡ take_number n 0 (source_of bytes c₀)
+  pub same : take_number (n - i) v s ≡ take_number n 0 s₀
 
-module _ {bytes : List ℕ} {n : ℕ} {c₀ c : Cursor} {v i : ℕ} (a : Now bytes n c₀ c v i) where
-  pub now_small : i < 15 → v < 32768
-  now_small h = omega (arith, a.small, pow_mono {i = i} {j = 15} (omega arith))
-
-  pub now_end : i ≡ n → Counts bytes n c₀ (Is c v)
-  unfolding number_of take_number
-  now_end e =
-      let z : n - i ≡ 0 = omega arith in
-      record { same = rw z at a.same; small = λ w d q. let g : v ≡ w = cc in let s : v < 2 ^ n = rw e at a.small in rw g at s }
+module _ {n : ℕ} {s₀ s : Source} {v i : ℕ} (a : Now n s₀ s v i) where
+  pub now_end : i ≡ n → got v s ≡ take_number n 0 s₀
+  unfolding take_number
+  now_end e = let z : n - i ≡ 0 = omega arith in rw z at a.same
 
   module _ (h : i < n) where
-    next : take_number (suc (n - (i + 1))) v (source_of bytes c) ≡ take_number n 0 (source_of bytes c₀)
+    next : take_number (suc (n - (i + 1))) v s ≡ take_number n 0 s₀
     next = let e : n - i ≡ suc (n - (i + 1)) = omega arith in rw e at a.same
 
-    pub now_stopped : {m : ℕ} {d : Cursor} → take_bit (source_of bytes c) ≡ stopped (stop m d.last) → Counts bytes n c₀ (Stopped m d)
-    unfolding number_of take_number
-    now_stopped e = record { same = rw e at next; small = λ w d q. let z : ◌≡◌ {A = ℕ} 0 1 = cc in absurd (omega arith) }
-
-    pub now_turn : {b : Bool} {d : Cursor} → take_bit (source_of bytes c) ≡ got b (source_of bytes d) → Now bytes n c₀ d (2 * v + bin b) (i + 1)
+    pub now_stopped : {x : Stop} → stopped x ≡ take_bit s → stopped x ≡ take_number n 0 s₀
     unfolding take_number
-    now_turn {b} {d} e = record { small = rw (add-one i, pow-suc 2 i) (omega (arith, a.small, bin_small b)); same = rw e at next }
+    now_stopped e = rw (← e) at next
+
+    pub now_turn : {b : Bool} {t : Source} → got b t ≡ take_bit s → Now n s₀ t (2 * v + bin b) (i + 1)
+    unfolding take_number
+    now_turn {b} e = record { small = rw (add-one i, pow-suc 2 i) (omega (arith, a.small, bin_small b)); same = rw (← e) at next }
 
 -- ---- a one moved up
 

@@ -1,7 +1,7 @@
 -- What the code's answers on tasks are worth, case by case, in the terms that its tests leave. Assumes nothing.
 use mathlib.Core.Path.{◌≡◌, refl, sym, ap, ◌∙◌}
-use mathlib.Core.Bool.{Bool, true, false}
-use Rattle.std.specs.Prelude.{Option, Some, None}
+use mathlib.Core.Bool.{true, false}
+use Rattle.std.specs.Prelude.{Some}
 use Prim.Native.Nat.{ℕ, zero, suc, ◌+◌, ◌-◌, ◌*◌, ◌%◌, ◌^◌, ◌≤◌, ◌<◌}
 use native.Mathlib.Numerals.{sub-one}
 use native.Mathlib.Omega.{arith}
@@ -9,14 +9,8 @@ use lib.Bits.{bit_and, and_mask}
 use lib.Dec.{leb}
 use borrow.Author.Tests.{le-leb, lt-leb}
 use Rattle.bit_rules.specs.Source.{Source, stopped, stop}
-use Rattle.bits.specs.Code.{source_of}
-use Rattle.bits.specs.declared.Cursor.{Cursor}
-use Rattle.plane_rules.specs.Task.{walk, ended, over}
-use Rattle.plane_rules.specs.AcRead.{meaning, block_end}
-use Rattle.ac_tasks.specs.Code.{task_of, open_of, block_of, BlockEnds}
-use Rattle.ac_tasks.specs.declared.Job.{Job}
-use Rattle.ac_tasks.specs.declared.Job.TheVariants.{Ended}
-use Rattle.ac_tasks.specs.declared.Block.TheVariants.{Done, Stopped}
+use Rattle.plane_rules.specs.Task.{ended, over}
+use Rattle.plane_rules.specs.AcRead.{meaning}
 use Rattle.ac_tasks.proofs.Numbers.{moved_one}
 
 -- ---- what is left of an end run behind a block
@@ -24,22 +18,6 @@ use Rattle.ac_tasks.proofs.Numbers.{moved_one}
 pub over_on : (n : ℕ) → (n ≡ 0 → ⊥) → Some (ended (n - 1)) ≡ over (Some (ended n))
 over_on zero h = absurd (h refl)
 over_on (suc n) h = rw sub-one
-
--- ---- the end of a block
-
-module _ {task : (Option Job)} {c : Cursor} where
-  pub ends_none : task ≡ None → BlockEnds task c (Done c None)
-  unfolding block_end block_of
-  ends_none e = rw e (record { same = λ bytes. refl })
-
-  module _ {job : Job} (e : task ≡ Some job) where
-    pub ends_walk : {n : ℕ} {sign : Option Bool} → task_of job ≡ walk n sign → BlockEnds task c (Stopped 16 c)
-    unfolding block_end block_of source_of
-    ends_walk q = record { same = λ bytes. rw (e, q) }
-
-    pub ends_run : {n : ℕ} {next : (Option Job)} → job ≡ Ended n → open_of next ≡ over (open_of (Some job)) → BlockEnds task c (Done c next)
-    unfolding block_end block_of
-    ends_run q f = record { same = λ bytes. rw (e, f, q) }
 
 -- ---- an end run, in the code's terms
 

@@ -1,4 +1,3 @@
 pub mod Filling
 pub mod Looking
 pub mod Reading
-pub mod Cases

@@ -73,11 +73,11 @@ module _ {T : Table} {numbers : List ℕ} (ready : Prepared T numbers) where
       pub position_kept : get_or numbers (3 * l + 2) 0 ≡ h.position
       position_kept = sym (get_or-drop (3 * l) numbers 2 0) ∙ ap (λ (x : List ℕ). get_or x 2 0) row
 
-      pub here_stopped : {x : Stop} → take_bit s ≡ stopped x → stopped x ≡ take_code T s₀
+      pub here_stopped : {x : Stop} → stopped x ≡ take_bit s → stopped x ≡ take_code T s₀
       unfolding decode_from lengths_from
-      here_stopped e = rw (next, e) at h.same
+      here_stopped e = rw (next, ← e) at h.same
 
-      module _ {b : Bool} {t : Source} (e : take_bit s ≡ got b t) where
+      module _ {b : Bool} {t : Source} (e : got b t ≡ take_bit s) where
         abbrev more : ℕ
         more = 2 * code + bin b
 
@@ -95,7 +95,7 @@ module _ {T : Table} {numbers : List ℕ} (ready : Prepared T numbers) where
 
             pub here_found : got (get_or T.values (position + more - smallest) 0) t ≡ take_code T s₀
             unfolding decode_from lengths_from
-            here_found = rw (y ∙ smallest_kept, z ∙ position_kept) (rw (next, e, below_limit more (largest_of h.first count) under) at h.same)
+            here_found = rw (y ∙ smallest_kept, z ∙ position_kept) (rw (next, ← e, below_limit more (largest_of h.first count) under) at h.same)
 
           module _ (m : limit ≤ more) where
             over : limit_of (largest_of h.first count) ≤ more
@@ -111,7 +111,7 @@ module _ {T : Table} {numbers : List ℕ} (ready : Prepared T numbers) where
               reached = omega (arith, limit_least h.first count more (omega (arith, h.reached)) over);
               places = omega (arith, h.places, total_on T.counts l inside);
               kept = rw three (sym (drop-drop 3 (3 * l) numbers) ∙ ap (drop 3) row);
-              same = rw (next, e, from_limit more (largest_of h.first count) over) at h.same;
+              same = rw (next, ← e, from_limit more (largest_of h.first count) over) at h.same;
             }
               where
                 three : 3 * (l + 1) ≡ 3 * l + 3

@@ -41,17 +41,17 @@ module _ {T : Table} {s₀ s : Source} {over place l : ℕ} (h : Here T s₀ s o
     next : drop l T.counts ≡ get_or T.counts l 0 ∷ drop (l + 1) T.counts
     next = rw (add-one l) (drop-cons T.counts l 0 k)
 
-    pub here_stopped : {x : Stop} → take_bit s ≡ stopped x → stopped x ≡ take_code T s₀
+    pub here_stopped : {x : Stop} → stopped x ≡ take_bit s → stopped x ≡ take_code T s₀
     unfolding code_from
-    here_stopped e = rw (next, e) at h.same
+    here_stopped e = rw (next, ← e) at h.same
 
-    module _ {b : Bool} {t : Source} (e : take_bit s ≡ got b t) where
+    module _ {b : Bool} {t : Source} (e : got b t ≡ take_bit s) where
       pub here_room : 2 * over + bin b < get_or T.counts l 0 → place + (2 * over + bin b) < length T.values
       here_room m = omega (arith, h.places, total_on T.counts l k)
 
       pub here_found : 2 * over + bin b < get_or T.counts l 0 → got (get_or T.values (place + (2 * over + bin b)) 0) t ≡ take_code T s₀
       unfolding code_from
-      here_found m = rw (← (get_or-drop place T.values (2 * over + bin b) 0)) (rw (next, e, lt-ltb (2 * over + bin b) (get_or T.counts l 0) m) at h.same)
+      here_found m = rw (← (get_or-drop place T.values (2 * over + bin b) 0)) (rw (next, ← e, lt-ltb (2 * over + bin b) (get_or T.counts l 0) m) at h.same)
 
       pub here_on : get_or T.counts l 0 ≤ 2 * over + bin b → Here T s₀ t (2 * over + bin b - get_or T.counts l 0) (place + get_or T.counts l 0) (l + 1)
       unfolding code_from
@@ -59,7 +59,7 @@ module _ {T : Table} {s₀ s : Source} {over place l : ℕ} (h : Here T s₀ s o
         within = omega arith;
         small = omega (arith, h.small, bin_small b, powers);
         places = omega (arith, h.places, total_on T.counts l k);
-        same = rw (← (drop-drop (get_or T.counts l 0) place T.values)) (rw (next, e, le-ltb (2 * over + bin b) (get_or T.counts l 0) m) at h.same);
+        same = rw (← (drop-drop (get_or T.counts l 0) place T.values)) (rw (next, ← e, le-ltb (2 * over + bin b) (get_or T.counts l 0) m) at h.same);
       }
         where
           powers : 2 ^ (l + 1) ≡ 2 ^ l * 2

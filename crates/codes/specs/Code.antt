@@ -1,16 +1,7 @@
--- What the code's answer to a code read stands for, and the numbers of a table's lengths as the code keeps them.
+-- The numbers of a table's lengths as the code keeps them.
 use Rattle.std.specs.Prelude.{◌≡◌, true, List, [], ◌∷◌, ℕ}
-use Rattle.bit_rules.specs.Source.{Out, got, stopped, stop}
 use Rattle.bit_rules.specs.Table.{Table, good_table}
 use Rattle.bit_rules.specs.Lookup.{Length, limit_of, lengths_of}
-use Rattle.bits.specs.Code.{source_of}
-use Rattle.codes.specs.declared.Coded.{Coded}
-use Rattle.codes.specs.declared.Coded.TheVariants.{Value, Stopped}
-
--- N15: what the code's answer stands for
-unfoldable pub coded_of : List ℕ → Coded → Out ℕ
-coded_of bytes (Value v c) = got v (source_of bytes c)
-coded_of bytes (Stopped number c) = stopped (stop number c.last)
 
 -- K7: three numbers for each length: the smallest code, the largest plus one, the first value's position
 unfoldable pub numbers_of : List Length → List ℕ

@@ -2,20 +2,13 @@
 #![tactic(auto)]
 
 ghost use Rattle.std.specs.Prelude.{◌≡◌, true, ◌+◌, ◌≤◌, ◌<◌, length, drop};
-ghost use Rattle.bits.specs.Code.{source_of};
+ghost use Rattle.bits.specs.Code.{bits_in, read_by};
 ghost use Rattle.bit_rules.specs.Table.{table, code_count, kraft, holds, distinct, good_table};
 ghost use Rattle.bit_rules.specs.Read.{take_code};
 ghost use Rattle.bit_rules.specs.Lookup.{largest_of, limit_of, lengths_from};
-ghost use Rattle.codes.specs.Code.{coded_of, numbers_of, Prepared};
+ghost use Rattle.codes.specs.Code.{numbers_of, Prepared};
 
-use bits::{Cursor, Taken};
-
-// A value, or why there is none; and the cursor behind it.
-#[derive(Clone, Copy)]
-pub enum Coded {
-    Value(u8, Cursor),
-    Stopped(u32, Cursor),
-}
+use bits::{BitReader, Stop};
 
 // The sum of 16 counts.
 fn code_count(counts: &[u8]) -> usize
@@ -84,30 +77,23 @@ pub fn good_table(counts: &[u8], values: &[u8]) -> bool
 }
 
 // The value of the code that the next bits make.
-pub fn take_code(counts: &[u8], values: &[u8], data: &[u8], c: Cursor) -> Coded
+pub fn take_code<'a>(counts: &[u8], values: &[u8], r: &mut BitReader<'a>) -> Result<u8, Stop>
     requires { good_table (table counts.now values.now) ≡ true }
-    ensures { coded_of «data».now result ≡ take_code (table counts.now values.now) (source_of «data».now c) }
+    ensures { read_by r.new result ≡ take_code (table counts.now values.now) (bits_in r.old) }
 {
-    let mut cursor = c;
     let mut over = 0;
     let mut place = 0;
     for &count in counts {
-        let t = bits::reader::bit_at(data, cursor);
-        match t {
-            Taken::Bit(b, next) => {
-                over = 2 * over + (b as usize);
-                cursor = next;
-            }
-            Taken::Stopped(number, stop) => return Coded::Stopped(number, stop),
-        }
+        let b = r.next_bit()?;
+        over = 2 * over + (b as usize);
         let n = usize::from(count);
         if over < n {
-            return Coded::Value(values[place + over], cursor);
+            return Ok(values[place + over]);
         }
         over -= n;
         place += n;
     }
-    Coded::Stopped(14, cursor)
+    Err(r.stop(14)) // sixteen bits and no code
 }
 
 // One above the largest of n codes, which begin at the smallest; 0 where there are none.
@@ -140,26 +126,24 @@ pub fn put_numbers(counts: &[u8], numbers: &mut [u16])
 }
 
 // The same by the numbers of the lengths: bits are taken while they are above the largest code of their length. (The counts stand in the promise alone.)
-pub fn look_up(counts: &[u8], values: &[u8], numbers: &[u16; 48], data: &[u8], c: Cursor) -> Coded
+pub fn look_up<'a>(
+    counts: &[u8],
+    values: &[u8],
+    numbers: &[u16; 48],
+    r: &mut BitReader<'a>,
+) -> Result<u8, Stop>
     requires { Prepared (table counts.now values.now) numbers.now }
-    ensures { coded_of «data».now result ≡ take_code (table counts.now values.now) (source_of «data».now c) }
+    ensures { read_by r.new result ≡ take_code (table counts.now values.now) (bits_in r.old) }
 {
-    let mut here = c;
     let mut code = 0;
     for l in 0..16 {
-        let t = bits::reader::bit_at(data, here);
-        match t {
-            Taken::Bit(b, next) => {
-                code = 2 * code + (b as usize);
-                here = next;
-            }
-            Taken::Stopped(number, stop) => return Coded::Stopped(number, stop),
-        }
+        let bit = r.next_bit()?;
+        code = 2 * code + (bit as usize);
         if code < usize::from(numbers[3 * l + 1]) {
             let smallest = usize::from(numbers[3 * l]);
             let position = usize::from(numbers[3 * l + 2]);
-            return Coded::Value(values[position + code - smallest], here);
+            return Ok(values[position + code - smallest]);
         }
     }
-    Coded::Stopped(14, here)
+    Err(r.stop(14))
 }

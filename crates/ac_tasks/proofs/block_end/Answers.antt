@@ -1,17 +1,20 @@
 -- `ac_tasks::block_end` meets its contract. Assumes nothing.
-use mathlib.Core.Path.{ap}
-use Rattle.ac_tasks.specs.Code.{task_of}
-use Rattle.ac_tasks.proofs.Tasks.{ends_none, ends_walk, ends_run}
+use Rattle.bits.specs.Code.{read_as}
+use Rattle.plane_rules.specs.AcRead.{block_end}
 use Rattle.ac_tasks.proofs.block_end.Goals as goal
 
 pub returns-in-None : goal.returns-in-None
-returns-in-None c = ends_none c.in-None.is
+unfolding block_end read_as
+returns-in-None c = rw c.in-None.is
 
 pub returns-in-Leave : goal.returns-in-Leave
-returns-in-Leave c = ends_walk c.in-Some.is (ap task_of c.in-Leave.is)
+unfolding block_end read_as
+returns-in-Leave c = rw (c.in-Some.is, c.in-Leave.is, c.stop.ensures)
 
 pub returns-in-Set : goal.returns-in-Set
-returns-in-Set c = ends_walk c.in-Some.is (ap task_of c.in-Set.is)
+unfolding block_end read_as
+returns-in-Set c = rw (c.in-Some.is, c.in-Set.is, c.stop-in-Set.ensures)
 
 pub returns-in-Ended : goal.returns-in-Ended
-returns-in-Ended c = ends_run c.in-Some.is c.in-Ended.is c.over_job.ensures
+unfolding block_end read_as
+returns-in-Ended c = rw (c.in-Some.is, c.over_job.ensures, c.in-Ended.is)

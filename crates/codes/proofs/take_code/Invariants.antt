@@ -1,8 +1,8 @@
 -- What the loop of `codes::take_code` keeps.
-use Rattle.bits.specs.Code.{source_of}
+use Rattle.bits.specs.Code.{bits_in}
 use Rattle.bit_rules.specs.Table.{table}
 use Rattle.codes.proofs.Reading.{Here}
 use Rattle.codes.proofs.take_code.Given as goal
 
 abbrev pub invariant-loop-count : goal.invariant-loop-count
-invariant-loop-count l = Here (table l.counts l.values) (source_of l.data l.initial.cursor) (source_of l.data l.cursor) l.over l.place l.count-index
+invariant-loop-count l = Here (table l.counts l.values) (bits_in l.fn.r) (bits_in l.r) l.over l.place l.count-index
