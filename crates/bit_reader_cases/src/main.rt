@@ -2,7 +2,7 @@
 // that is given, where the data end or break with the offset told (12@1), and the bytes read.
 #![tactic(auto)]
 
-use bits::{Cursor, Taken};
+use bits::{BitReader, Stop};
 
 fn say(text: &[u8]) {
     io::write_all(1, text);
@@ -30,46 +30,33 @@ fn say_seen(seen: usize) {
 }
 
 // After the last bit: 18 where something else than padding is left.
-fn say_end(data: &[u8], c: Cursor) {
-    let e = bits::reader::end_at(data, c);
-    if e.padding {
+fn say_end<'a>(r: &BitReader<'a>) {
+    if r.is_padding() {
         say(b"0");
-        return say_seen(e.seen);
+    } else {
+        say_number(r.stop(18).number as u64);
     }
-    say(b"18");
-    say_seen(e.seen);
+    say_seen(r.seen());
 }
 
 // Where the data end or break, the offset told and the bytes read before.
-fn say_stop(data: &[u8], c: Cursor, number: u64, offset: usize) {
-    let e = bits::reader::end_at(data, c);
-    say_number(number);
+fn say_stop(stop: Stop, seen: usize) {
+    say_number(stop.number as u64);
     say(b"@");
-    say_number(offset as u64);
-    say_seen(e.seen);
+    say_number(stop.offset as u64);
+    say_seen(seen);
 }
 
 // This many bits.
 fn show(data: &[u8], count: usize) {
-    let mut c = Cursor {
-        last: 0,
-        at: 0,
-        left: 0,
-        byte: 0,
-    };
+    let mut r = BitReader::new(data);
     for _ in 0..count {
-        let t = bits::reader::bit_at(data, c);
-        match t {
-            Taken::Bit(bit, next) => {
-                say_bit(bit, next.last);
-                c = next;
-            }
-            Taken::Stopped(number, stop) => {
-                return say_stop(data, c, number as u64, stop.last);
-            }
+        match r.next_bit() {
+            Ok(bit) => say_bit(bit, r.stop(0).offset),
+            Err(stop) => return say_stop(stop, r.seen()),
         }
     }
-    say_end(data, c);
+    say_end(&r);
 }
 
 fn main() {

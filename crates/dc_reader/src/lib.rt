@@ -3,12 +3,12 @@
 
 ghost use Rattle.std.specs.Prelude.{◌≡◌, ◌≤◌, pos, nat_abs, length};
 ghost use Rattle.answers.specs.Verdict.{Meets, Tried};
-ghost use Rattle.bit_rules.specs.Source.{start};
+ghost use Rattle.bits.specs.Code.{bits_in};
 ghost use Rattle.plane_rules.specs.Dc.{new_dc, dc_blocks, read_dc};
 ghost use Rattle.planes.specs.Code.{Small, Ran};
 
 use answers::{Answer, Refusal};
-use bits::{Cursor, Taken};
+use bits::BitReader;
 use levels::Part;
 
 // "new DC = 2c + bit"
@@ -20,33 +20,29 @@ fn new_dc(value: i32, bit: bool) -> i32
 }
 
 // The blocks, one bit each.
-fn read_dc_blocks(data: &[u8], values: &[i32], destination: &mut [i32]) -> Result<Cursor, Refusal>
+fn read_dc_blocks<'a>(
+    r: &mut BitReader<'a>,
+    values: &[i32],
+    destination: &mut [i32],
+) -> Result<(), Refusal>
     requires small { Small values.now }
     requires values_in_bounds { length values.now ≤ length destination.old }
-    ensures { Ran «data».now (length values.now) (dc_blocks 0 values.now (start «data».now))
-        destination.old destination.new result }
+    ensures { Ran (length values.now) (dc_blocks 0 values.now (bits_in r.old))
+        destination.old destination.new r.new result }
 {
-    let mut c = Cursor {
-        last: 0,
-        at: 0,
-        left: 0,
-        byte: 0,
-    };
     for (i, &value) in values.iter().enumerate() {
-        let t = bits::reader::bit_at(data, c);
-        match t {
-            Taken::Bit(b, next) => {
-                destination[i] = new_dc(value, b);
-                c = next;
+        match r.next_bit() {
+            Ok(bit) => destination[i] = new_dc(value, bit),
+            Err(stop) => {
+                return Err(Refusal {
+                    number: stop.number,
+                    place: i,
+                    second: stop.offset,
+                });
             }
-            Taken::Stopped(number, stop) => return Err(Refusal {
-                number,
-                place: i,
-                second: stop.last,
-            }),
         }
     }
-    Ok(c)
+    Ok(())
 }
 
 // The plane, or the first refusal.
@@ -73,8 +69,9 @@ fn try_read_dc(
     if destination.len() < blocks {
         return answers::refuse(9, blocks);
     }
-    let ran = read_dc_blocks(data, values, destination);
-    planes::close_plane(data, blocks, ran)
+    let mut r = BitReader::new(data);
+    read_dc_blocks(&mut r, values, destination)?;
+    planes::close_plane(blocks, &r)
 }
 
 // Plane j of DC values: level j-1 to level j, one value a block.

@@ -7,7 +7,7 @@ ghost use Rattle.plane_rules.specs.Plane.{readable, our_writer, writable};
 ghost use Rattle.planes.specs.Code.{Closes};
 
 use answers::Refusal;
-use bits::Cursor;
+use bits::BitReader;
 
 // Whether plane and blocks lie in the ranges of a plane.
 pub fn readable(plane: u32, blocks: usize) -> bool
@@ -30,21 +30,11 @@ pub fn writable(plane: u32) -> bool
 }
 
 // What must follow the last block; `count` values were written.
-pub fn close_plane(
-    data: &[u8],
-    count: usize,
-    ran: Result<Cursor, Refusal>,
-) -> Result<usize, Refusal>
-    ensures { Closes «data».now count ran result }
+pub fn close_plane<'a>(count: usize, r: &BitReader<'a>) -> Result<usize, Refusal>
+    ensures { Closes count r.now result }
 {
-    match ran {
-        Err(r) => Err(r),
-        Ok(c) => {
-            let e = bits::reader::end_at(data, c);
-            if e.padding {
-                return Ok(count);
-            }
-            answers::refuse(18, e.seen)
-        }
+    if r.is_padding() {
+        return Ok(count);
     }
+    answers::refuse(18, r.seen())
 }

@@ -1,13 +1,12 @@
 -- `planes::close_plane` meets its contract. Assumes nothing.
 use mathlib.Core.Path.{sym, ◌∙◌}
-use Rattle.planes.proofs.Closing.{closes_refused, closes_given, closes_left}
+use Rattle.plane_rules.specs.Plane.{closed}
 use Rattle.planes.proofs.close_plane.Goals as goal
 
-pub returns-then-e : goal.returns-then-e
-returns-then-e c = closes_given c.in-Ok.is (sym c.end_at-e.ensures.0 ∙ c.if-e.true)
+pub returns-then-is_padding : goal.returns-then-is_padding
+unfolding closed
+returns-then-is_padding c = record { told = λ values n. rw (sym c.is_padding.ensures ∙ c.if-is_padding.true, n) }
 
-pub returns-in-Err : goal.returns-in-Err
-returns-in-Err c = closes_refused c.in-Err.is
-
-pub returns-else-e : goal.returns-else-e
-returns-else-e c = closes_left c.in-Ok.is (sym c.end_at-e.ensures.0 ∙ c.if-e.false) c.end_at-e.ensures.1 c.refuse.ensures
+pub returns : goal.returns
+unfolding closed
+returns c = record { told = λ values n. c.refuse.ensures ∙ rw (sym c.is_padding.ensures ∙ c.if-is_padding.false, c.seen.ensures) }
