@@ -1,7 +1,7 @@
 -- The loop over the positions of a block: what is left to read, behind the values read so far, is the whole. Assumes nothing.
 use mathlib.Core.Path.{◌≡◌, refl, sym, ap, ◌∙◌}
-use mathlib.Core.List.{List, [], ◌∷◌, ◌++◌}
-use Rattle.std.specs.Prelude.{Option, Some, None}
+use mathlib.Core.List.{List, [], ◌∷◌, ◌++◌, append-nil}
+use Rattle.std.specs.Prelude.{Option, Some, None, Result, Ok, Err}
 use mathlib.Core.Bool.{Bool}
 use Prim.Native.Nat.{ℕ, zero, suc, ◌+◌, ◌-◌, ◌≤◌, ◌<◌}
 use native.Mathlib.Numerals.{add-one}
@@ -14,6 +14,11 @@ use Rattle.bit_rules.specs.Reader.{and_then, done}
 use Rattle.bit_rules.specs.Table.{Table}
 use Rattle.plane_rules.specs.Task.{Task, walk, at_zero, pass}
 use Rattle.plane_rules.specs.AcRead.{task_at, position, block_end, ac_block}
+use Rattle.bits.specs.Code.{bits_in, read_as}
+use Rattle.bits.specs.declared.BitReader.{BitReader}
+use Rattle.bits.specs.declared.Stop.{Stop as Refused}
+use Rattle.ac_tasks.specs.Code.{block_of}
+use Rattle.ac_tasks.specs.declared.Job.{Job}
 use Rattle.ac_values.specs.Code.{fixing, aim, aimed}
 use Rattle.ac_values.proofs.Values.{stays, at_value, landed}
 use Rattle.ac_steps.specs.Code.{in_front, At, Carries, Halts}
@@ -29,15 +34,20 @@ unfolding in_front
 front_one values v (got r s) = ap (λ (l : List ℤ). got (l, r.1) s) (sym (append_snoc values v r.0))
 front_one values v (stopped x) = refl
 
+front_all : (values : List ℤ) (r : BitReader) (x : Result (Option Job) Refused) → in_front values (read_as (block_of []) r x) ≡ read_as (block_of values) r x
+unfolding in_front read_as
+front_all values r (Ok task) = ap (λ (l : List ℤ). got (block_of l task) (bits_in r)) (append-nil values)
+front_all values r (Err x) = refl
+
 pub at_first : {T : Table} {left : ℕ} {values now : List ℤ} {o : Option Task} {s : Source} → length now ≡ length values → At T left values now o o s s 0
 at_first l = record { within = omega arith; long = l; same = front_none _ }
 
 module _ {T : Table} {left : ℕ} {values now : List ℤ} {o₀ o : Option Task} {s₀ s : Source} {i : ℕ} (a : At T left values now o₀ o s₀ s i) where
-  pub at_end : length values ≤ i → in_front now (block_end o s) ≡ ac_block T left o₀ values s₀
+  pub at_end : (r : BitReader) (x : Result (Option Job) Refused) → length values ≤ i → read_as (block_of []) r x ≡ block_end o s → read_as (block_of now) r x ≡ ac_block T left o₀ values s₀
   unfolding ac_block
-  at_end h =
+  at_end r x h e =
       let all : take i now ≡ now = take_all i now (omega (arith, a.long)) in
-      rw (drop_of_length-le values {i = i} h, all) at a.same
+      sym (front_all now r x) ∙ (rw (drop_of_length-le values {i = i} h, all, ← e) at a.same)
 
   module _ (h : i < length values) where
     next : drop i values ≡ get_or values i (pos 0) ∷ drop (i + 1) values
