@@ -3,28 +3,18 @@
 
 ghost use Rattle.std.specs.Prelude.{◌≡◌, ◌≤◌, nat_abs};
 ghost use Rattle.bit_rules.specs.Source.{take_bit};
-ghost use Rattle.bits.specs.Code.{source_of};
-ghost use Rattle.ac_values.specs.Code.{fixed_of, fixing, aimed};
+ghost use Rattle.bits.specs.Code.{bits_in, read_by};
+ghost use Rattle.ac_values.specs.Code.{fixing, aimed};
 
-use bits::{Cursor, Taken};
-
-// A corrected value, or why there is no bit; and the cursor behind it.
-#[derive(Clone, Copy)]
-pub enum Fixed {
-    Now(i32, Cursor),
-    Stopped(u32, Cursor),
-}
+use bits::{BitReader, Stop};
 
 // "each value already nonzero takes one correction bit"
-pub fn correct(data: &[u8], value: i32, c: Cursor) -> Fixed
+pub fn correct<'a>(r: &mut BitReader<'a>, value: i32) -> Result<i32, Stop>
     requires { nat_abs value ≤ 32768 }
-    ensures { fixed_of «data».now result ≡ fixing value (take_bit (source_of «data».now c)) }
+    ensures { read_by r.new result ≡ fixing value (take_bit (bits_in r.old)) }
 {
-    let t = bits::reader::bit_at(data, c);
-    match t {
-        Taken::Bit(b, next) => Fixed::Now(ac_tasks::corrected(value, b), next),
-        Taken::Stopped(number, stop) => Fixed::Stopped(number, stop),
-    }
+    let bit = r.next_bit()?;
+    Ok(ac_tasks::corrected(value, bit))
 }
 
 // What the zero behind the walk becomes.

@@ -1,18 +1,22 @@
 -- `ac_reader::try_read_ac` meets its contract: the refusals in their order. Assumes nothing.
 use mathlib.Core.Path.{◌≡◌, sym, ◌∙◌}
 use mathlib.Core.Bool.{true}
+use lib.ListN.{length}
+use Rattle.std.specs.Prelude.{None}
+use Rattle.std.proofs.lemmas.Result.{err_from_is_err_and}
 use borrow.Author.Tests.{eq-eqb, ne_eqb, le-leb, lt-leb}
 use Rattle.laws.specs.Index.{every}
 use Rattle.answers.proofs.Laws.{tried_refused}
 use Rattle.levels.proofs.Ranges.{all_small}
+use Rattle.bit_rules.specs.Source.{start}
 use Rattle.bit_rules.specs.Table.{table, good_table}
-use Rattle.plane_rules.specs.Plane.{readable}
-use Rattle.plane_rules.specs.AcRead.{read_ac}
+use Rattle.plane_rules.specs.Plane.{readable, closed}
+use Rattle.plane_rules.specs.AcRead.{ac_blocks, cut, read_ac}
 use Rattle.plane_rules.proofs.Ranges.{Ranged, ranged}
-use Rattle.planes.proofs.Closing.{closing}
+use Rattle.planes.proofs.Closing.{closing, stopping}
 use native.Mathlib.Omega.{arith}
 use borrow.Author.Rules.{rules}
-use Rattle.ac_reader.proofs.try_read_ac.Goals.{Else-not-good_table, Else-not-readable}
+use Rattle.ac_reader.proofs.try_read_ac.Goals.{Else-not-good_table, Else-not-readable, Else-destination-count}
 use Rattle.ac_reader.proofs.try_read_ac.Goals as goal
 
 -- the counts are good
@@ -65,8 +69,8 @@ returns-then-destination-count c = let here = goal.at.returns-then-destination-c
     tried_refused c.refuse-then-destination-count.ensures
     (rw (counts here.Else-not-readable, eq-eqb _ _ c.if-values-count.false, tabled here.Else-not-good_table, sym c.first_outside.ensures ∙ c.in_default.is, lt-leb _ _ c.if-destination-count.true))
 
-pub read_blocks-ran-requires : goal.read_blocks-ran-requires
-read_blocks-ran-requires c = let here = goal.at.read_blocks-ran-requires c in
+pub read_blocks-requires : goal.read_blocks-requires
+read_blocks-requires c = let here = goal.at.read_blocks-requires c in
     let r = good here.Else-not-readable in
     record {
       codes_value = (tabled here.Else-not-good_table);
@@ -75,8 +79,19 @@ read_blocks-ran-requires c = let here = goal.at.read_blocks-ran-requires c in
       blocks_in_bounds = c.if-destination-count.false;
     }
 
-pub returns : goal.returns
+-- no test refuses
+passed : (c : Else-destination-count) → read_ac c.args.plane c.args.blocks (table c.args.counts.now c.args.codes.now) c.args.values.now c.args.«data».now (length c.args.destination.now)
+    ≡ closed (ac_blocks (table c.args.counts.now c.args.codes.now) 0 None (cut c.args.blocks c.args.values.now) (start c.args.«data».now))
 unfolding read_ac
-returns c = let here = goal.at.returns c in
+passed c = let here = goal.at.Else-destination-count c in
     rw (counts here.Else-not-readable, eq-eqb _ _ c.if-values-count.false, tabled here.Else-not-good_table, sym c.first_outside.ensures ∙ c.in_default.is, le-leb _ _ c.if-destination-count.false)
-    (closing c.read_blocks-ran.ensures (omega (arith, c.read_blocks-ran.auto.destination, c.if-destination-count.false)) c.close_plane.ensures)
+
+pub returns-in_err-read_blocks : goal.returns-in_err-read_blocks
+returns-in_err-read_blocks c = let here = goal.at.returns-in_err-read_blocks c in
+    let p = err_from_is_err_and c.from_residual.result c.from_residual.ensures.1 in
+    rw (p.1, p.2, passed here.Else-destination-count) (stopping (rw c.new-r.ensures at c.in_err-read_blocks.ensures))
+
+pub returns : goal.returns
+returns c = let here = goal.at.returns c in
+    rw (passed here.Else-destination-count)
+    (closing (rw c.new-r.ensures at c.in_ok-read_blocks.ensures) (omega (arith, c.read_blocks.auto.destination, c.if-destination-count.false)) c.close_plane.ensures)

@@ -1,17 +1,17 @@
 -- `ac_values::correct` meets its contract. Assumes nothing.
-use mathlib.Core.Path.{sym, ap, ◌∙◌}
+use mathlib.Core.Path.{sym}
 use mir.Syntax.{w32}
 use mir.Facts.{to_z-of_z}
+use Rattle.std.proofs.lemmas.Result.{err_from_is_err_and}
 use Rattle.laws.proofs.Integers.{back}
-use Rattle.bits.specs.Code.{taken_of}
-use Rattle.ac_values.specs.Code.{fixed_of, fixing}
+use Rattle.bits.specs.Code.{read_as}
+use Rattle.ac_values.specs.Code.{fixing}
 use Rattle.ac_values.proofs.correct.Goals as goal
 
-pub returns-in-Bit : goal.returns-in-Bit
-unfolding fixed_of fixing taken_of
-returns-in-Bit c = let n = rw (to_z-of_z c.ranges.value) at c.corrected.ensures in
-    rw (sym c.bit_at-t.ensures ∙ ap (taken_of _) c.in-Bit.is, back w32 _ c.corrected.type_inv, n)
+pub returns-in_err-bit : goal.returns-in_err-bit
+unfolding fixing read_as
+returns-in_err-bit c = let p = err_from_is_err_and c.from_residual.result c.from_residual.ensures.1 in rw (p.1, p.2, sym c.in_err-bit.ensures.taken)
 
-pub returns-in-Stopped : goal.returns-in-Stopped
-unfolding fixed_of fixing taken_of
-returns-in-Stopped c = rw (sym c.bit_at-t.ensures ∙ ap (taken_of _) c.in-Stopped.is)
+pub returns : goal.returns
+unfolding fixing read_as
+returns c = rw (sym c.in_ok-bit.ensures.taken, back w32 _ c.corrected.type_inv, c.corrected.ensures, to_z-of_z c.ranges.value)
