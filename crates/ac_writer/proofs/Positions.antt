@@ -184,7 +184,7 @@ module _ {T : Table} {before : List ℕ} {s : State} (block : List ℤ) (later :
           task = sym (ap (λ (x : List Token × Option Task). x.1) e) ∙ w.task;
         }
 
-    pub walk_end : {j : Option Job} → length block ≤ i → open_of j ≡ over (open_of q.task)
+    pub walk_end : {j : (Option Job)} → length block ≤ i → open_of j ≡ over (open_of q.task)
         → Moves T before memory s (record { pen = q.pen; task = j }) (write_block (open_of s.task) (kinds_from block 0) later)
     walk_end h e =
         let n = block_none (open_of q.task) (kinds_from block i) later (kinds_end block i h) in

@@ -73,12 +73,12 @@ unfolding least
 least_right None = refl
 least_right (Some a) = refl
 
-pub twice_turn : (ns : List ℕ) (w : Option ℕ) {v t : Option ℕ} {x : ℕ} {r : List ℕ} → least w (first_twice ns) ≡ t → ns ≡ x ∷ r
+pub twice_turn : (ns : List ℕ) (w : Option ℕ) {v t : (Option ℕ)} {x : ℕ} {r : List ℕ} → least w (first_twice ns) ≡ t → ns ≡ x ∷ r
     → v ≡ least w (cond (eqb (count x r) 0) None (Some x)) → least v (first_twice r) ≡ t
 unfolding first_twice
 twice_turn ns w {v} {t} {x} {r} h e f = rw f (least_assoc w (cond (eqb (count x r) 0) None (Some x)) (first_twice r) ∙ (rw e at h))
 
-pub twice_end : (ns : List ℕ) (w : Option ℕ) {t : Option ℕ} → least w (first_twice ns) ≡ t → ns ≡ [] → w ≡ t
+pub twice_end : (ns : List ℕ) (w : Option ℕ) {t : (Option ℕ)} → least w (first_twice ns) ≡ t → ns ≡ [] → w ≡ t
 unfolding first_twice
 twice_end ns w h e = least_right w ∙ (rw e at h)
 

@@ -104,7 +104,7 @@ fn put_windows(
 {
     let mut passed: usize = 0;
     let mut to: usize = 0;
-    // A while: the numbers are passed by windows, of which the last may be narrower.
+    // A while: the windows are of varying width.
     while passed < n {
         let k = windows::lesser(n - passed, places.len());
         to = put_window(file, kind, instance, passed, k, places, destination, to);

@@ -39,20 +39,20 @@ module _ (file : List ℕ) (kind instance : ℕ) where
   twice_of = refl
 
   -- none of 1 to n is missing, so none stands twice
-  pub searched_fine : {n : ℕ} {m : Option ℕ} → n ≡ length (mine_of file kind instance) → m ≡ missing_from n 1 (numbers_from file kind instance 2) → m ≡ None
+  pub searched_fine : {n : ℕ} {m : (Option ℕ)} → n ≡ length (mine_of file kind instance) → m ≡ missing_from n 1 (numbers_from file kind instance 2) → m ≡ None
       → Fine ≡ fault_of (numbers (mine_of file kind instance))
   searched_fine {n} e f g =
       let z : first_missing (numbers (mine_of file kind instance)) ≡ None = sym (missing_of n e) ∙ sym f ∙ g in
       sym (fault_fine _ (pigeonhole (numbers (mine_of file kind instance)) z) z)
 
-  pub searched_twice : {t : Option ℕ} {q : ℕ} → t ≡ first_twice (numbers_from file kind instance 2) → t ≡ Some q → Twice q ≡ fault_of (numbers (mine_of file kind instance))
+  pub searched_twice : {t : (Option ℕ)} {q : ℕ} → t ≡ first_twice (numbers_from file kind instance 2) → t ≡ Some q → Twice q ≡ fault_of (numbers (mine_of file kind instance))
   searched_twice f g = sym (fault_twice _ (sym twice_of ∙ sym f ∙ g))
 
-  pub searched_missing : {n : ℕ} {m : Option ℕ} {q : ℕ} → n ≡ length (mine_of file kind instance) → m ≡ missing_from n 1 (numbers_from file kind instance 2) → m ≡ Some q
+  pub searched_missing : {n : ℕ} {m : (Option ℕ)} {q : ℕ} → n ≡ length (mine_of file kind instance) → m ≡ missing_from n 1 (numbers_from file kind instance 2) → m ≡ Some q
       → first_twice (numbers (mine_of file kind instance)) ≡ None → Missing q ≡ fault_of (numbers (mine_of file kind instance))
   searched_missing {n} e f g t = sym (fault_missing _ t (sym (missing_of n e) ∙ sym f ∙ g))
 
-  pub searched_once : {t : Option ℕ} → t ≡ first_twice (numbers_from file kind instance 2) → t ≡ None → first_twice (numbers (mine_of file kind instance)) ≡ None
+  pub searched_once : {t : (Option ℕ)} → t ≡ first_twice (numbers_from file kind instance 2) → t ≡ None → first_twice (numbers (mine_of file kind instance)) ≡ None
   searched_once h i = sym twice_of ∙ sym h ∙ i
 
 -- ---- the verdict for a list of packets

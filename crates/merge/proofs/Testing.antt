@@ -14,7 +14,7 @@ use Rattle.merge_rules.specs.Picture.{merge_tests}
 use Rattle.settings.specs.Code.{Passed}
 use Rattle.merge.specs.Code.{Tested}
 
-module _ {s : Setting} {n : ℕ} {base residual : List ℤ} {table : List ℕ} {room : ℕ} {o : Result ℕ Refusal} where
+module _ {s : Setting} {n : ℕ} {base residual : List ℤ} {table : List ℕ} {room : ℕ} {o : (Result ℕ Refusal)} where
   pub tests_refused : {r : Refusal} → o ≡ Err r → ((result : List ℕ) → length result ≡ samples s n → merge_tests s n base residual table room result ≡ refused r)
       → Tested s n base residual table room o
   tests_refused e h = record {

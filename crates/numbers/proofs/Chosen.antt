@@ -177,13 +177,13 @@ single_twice lo ns {hi} e h =
 
 -- ---- from window to window
 
-pub windows_next : (ns : List ℕ) (lo hi : ℕ) {f : Option ℕ} → ((j : ℕ) → j < lo → count j ns ≤ 1) → TwiceIn lo hi ns f → f ≡ None → (j : ℕ) → j < hi → count j ns ≤ 1
+pub windows_next : (ns : List ℕ) (lo hi : ℕ) {f : (Option ℕ)} → ((j : ℕ) → j < lo → count j ns ≤ 1) → TwiceIn lo hi ns f → f ≡ None → (j : ℕ) → j < hi → count j ns ≤ 1
 windows_next ns lo hi h t e j l = ⊎_elim
     (λ u. h j (ltb-true j lo u))
     (λ u. subst (TwiceIn lo hi ns) e t j (ltb-false j lo u) l)
     (either (ltb j lo))
 
-pub windows_found : (ns : List ℕ) (lo hi : ℕ) {f : Option ℕ} {q : ℕ} → ((j : ℕ) → j < lo → count j ns ≤ 1) → TwiceIn lo hi ns f → f ≡ Some q → Some q ≡ first_twice ns
+pub windows_found : (ns : List ℕ) (lo hi : ℕ) {f : (Option ℕ)} {q : ℕ} → ((j : ℕ) → j < lo → count j ns ≤ 1) → TwiceIn lo hi ns f → f ≡ Some q → Some q ≡ first_twice ns
 windows_found ns lo hi {f} {q} h t e =
     let g : (1 < count q ns) × ((j : ℕ) → lo ≤ j → j < q → count j ns ≤ 1) = subst (TwiceIn lo hi ns) e t in
     sym (twice_is ns q g.0 (λ j l. ⊎_elim (λ u. h j (ltb-true j lo u)) (λ u. g.1 j (ltb-false j lo u) l) (either (ltb j lo))))

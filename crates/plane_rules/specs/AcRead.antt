@@ -1,7 +1,7 @@
 -- R2 to R16: reading an AC plane (T.81, Annex G). In this order: what a code asks (`end_run`, `meaning`, `task_at`), what the task that it opens does at
 -- a position (`corrected`, `position`), a block (`block_end`, `ac_block`), blocks one after another (`cut`, `ac_blocks`), and the call (`read_ac`).
 -- Case c of the whiteboard (S3), step by step: one block, 3 at position 1 and zeros behind it, data 43, which is 0100 0011; T has the codes 00, 01, 10
--- for 00, 01, F0. Position 1, nothing open: code 01 is r 0, s 1, and the sign bit 0 is negative, so the task is `walk 0 (Some false)`. The 3 takes a
+-- for 00, 01, F0. Position 1, nothing open: code 01 is r 0, s 1, and the sign bit 0 is negative, so the task is `walk 0 (some false)`. The 3 takes a
 -- correction bit, 0, and becomes 6; the task stays open. Position 2 is a zero with no zeros to pass: it becomes -1, and the task is done. Position 3,
 -- nothing open: code 00 is r 0, s 0, an end run of 2^0 + 0 = 1 block, `ended 0`: the zeros up to 63 stay, and behind 63 nothing is open. The bits left,
 -- 11, are ones, and no byte follows: 6, -1 and zeros are given. Over zeros alone the same data make position 1 the -1, then position 2 reads the code

@@ -2,7 +2,7 @@
 -- ahead in the block and in later ones (`ahead`, `quiet`), the task to open (`plan`) and its tokens (`emit`), the tokens of a block and of a plane
 -- (`write_block`, `tokens`), the table (`lacking`, `spelled`), the refusals (`written_ac`) and the call (`write_ac`).
 -- Case c of the whiteboard (S3), written: 6, -1 and zeros, whose halves are 3, 0 and zeros: `keep false`, `fresh false`, then `still`. Position 1,
--- nothing open: the new value ahead has 0 zeros before it (a correction does not count), so the task is `walk 0 (Some false)`: code 01 and the sign
+-- nothing open: the new value ahead has 0 zeros before it (a correction does not count), so the task is `walk 0 (some false)`: code 01 and the sign
 -- bit 0; then the 6 puts its correction bit, 0. Position 2 puts nothing, and the task is done. Position 3, nothing open, no new value ahead: `ended 0`,
 -- 1 block being 2^0 + 0: code 00 and no bits, and the zeros behind it put nothing. By T these are 01 0 0 00, filled up with 11: 0100 0011, data 43.
 use Rattle.std.specs.Prelude.{Bool, true, false, cond, List, [], ◌∷◌, ◌++◌, map, ℕ, zero, suc, ◌+◌, ◌-◌, ◌*◌, ◌/◌, ◌^◌, eqb, ltb, ℤ, pos, negsuc, neg_ℤ, nat_abs, length, Option, Some, None}

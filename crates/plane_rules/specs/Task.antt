@@ -1,7 +1,7 @@
 -- What a code of an AC plane asks of the positions that follow it.
 use Rattle.std.specs.Prelude.{Bool, true, false, ℕ, zero, suc, ℤ, pos, negsuc, Option, Some, None}
 
--- R5: pass n zeros, then set the next zero to +1 or -1 (`Some`) or leave it zero (`None`); or this block and n more end here
+-- R5: pass n zeros, then set the next zero to +1 or -1 (`some`) or leave it zero (`none`); or this block and n more end here
 pub data Task : Type 0 where
   walk : ℕ → Option Bool → Task
   ended : ℕ → Task

@@ -140,18 +140,18 @@ module _ {file : List ℕ} {kind instance passed : ℕ} {places : List ℕ} (g :
       subst (λ (x : ℕ). 1 ≤ count x (numbers_from file kind instance 2)) e (there_count (q - (passed + 1)) (omega arith) (h (q - (passed + 1)) (omega arith)))
 
   -- a place of the window is 0: its number is the smallest missing
-  pub window_missing : {f : Option ℕ} {i : ℕ} → f ≡ first_fail k (λ j. ltb 0 (get_or places j 0)) → f ≡ Some i → missing_from left (passed + 1) (numbers_from file kind instance 2) ≡ Some (passed + 1 + i)
+  pub window_missing : {f : (Option ℕ)} {i : ℕ} → f ≡ first_fail k (λ j. ltb 0 (get_or places j 0)) → f ≡ Some i → missing_from left (passed + 1) (numbers_from file kind instance 2) ≡ Some (passed + 1 + i)
   window_missing {f} {i} e h =
       let s = first_at k (λ j. ltb 0 (get_or places j 0)) (sym e ∙ h) in
       missing_is (numbers_from file kind instance 2) left (passed + 1) (passed + 1 + i) (omega arith) (omega (arith, s.0))
       ((g.each i (omega (arith, s.0))).gone (omega (arith, ltb-false 0 (get_or places i 0) s.1)))
       (there_below i (omega (arith, s.0)) s.2)
 
-  pub window_index : {f : Option ℕ} {i : ℕ} → f ≡ first_fail k (λ j. ltb 0 (get_or places j 0)) → f ≡ Some i → i < k
+  pub window_index : {f : (Option ℕ)} {i : ℕ} → f ≡ first_fail k (λ j. ltb 0 (get_or places j 0)) → f ≡ Some i → i < k
   window_index e h = (first_at k (λ j. ltb 0 (get_or places j 0)) (sym e ∙ h)).0
 
   -- none of the window's numbers is missing
-  pub window_passed : {f : Option ℕ} → f ≡ first_fail k (λ j. ltb 0 (get_or places j 0)) → f ≡ None
+  pub window_passed : {f : (Option ℕ)} → f ≡ first_fail k (λ j. ltb 0 (get_or places j 0)) → f ≡ None
       → missing_from left (passed + 1) (numbers_from file kind instance 2) ≡ missing_from (left - k) (passed + k + 1) (numbers_from file kind instance 2)
   window_passed e h =
       let z : left ≡ k + (left - k) = omega arith in

@@ -78,7 +78,7 @@ fn missing_by(
     ensures { result ≡ missing_from n 1 (numbers_from file.now kind instance 2) }
 {
     let mut passed: usize = 0;
-    // A while: the numbers are passed by windows, of which the last may be narrower.
+    // A while: the windows are of varying width.
     while passed < n {
         locate(file, kind, instance, passed, places);
         let k = lesser(n - passed, places.len());
