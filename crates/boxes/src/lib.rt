@@ -7,19 +7,20 @@ ghost use Rattle.box_rules.specs.Box.{box_bytes};
 
 use answers::{Answer, Refusal};
 use judging::Ready;
+use packets::Sought;
 
-fn try_box(file: &[u8], kind: u32, instance: u16, destination: &mut [u8]) -> Result<usize, Refusal>
-    ensures { Tried 0 (box_bytes file.now kind instance (length destination.old))
+fn try_box(sought: Sought, destination: &mut [u8]) -> Result<usize, Refusal>
+    ensures { Tried 0 (box_bytes sought.entry.file.now sought.entry.kind sought.entry.instance (length destination.old))
         destination.old destination.new result }
 {
-    match judging::judged(file, kind, instance, destination.len()) {
+    match judging::judged(sought, destination.len()) {
         Err(r) => Err(r),
         Ok(Ready { n, total, ordered }) => {
             if ordered {
-                copies::put_in_order(file, kind, instance, destination);
+                copies::put_in_order(sought, destination);
                 return Ok(total);
             }
-            copies::put_by_number(file, kind, instance, n, destination);
+            copies::put_by_number(sought, n, destination);
             Ok(total)
         }
     }
@@ -30,7 +31,12 @@ pub fn box_bytes(file: &[u8], kind: u32, instance: u16, destination: &mut [u8]) 
     ensures { Meets 0 (box_bytes file.now kind instance (length destination.old))
         destination.old destination.new result }
 {
-    let o = try_box(file, kind, instance, destination);
+    let sought = Sought {
+        file,
+        kind,
+        instance,
+    };
+    let o = try_box(sought, destination);
     if o.is_err() {
         destination.fill(0);
     }

@@ -7,7 +7,7 @@ ghost use Rattle.box_rules.specs.Order.{payloads};
 ghost use Rattle.scans.specs.Code.{mine_of};
 ghost use Rattle.copies.specs.Code.{put_at, Numbered, Windowed};
 
-use packets::Mine;
+use packets::{Mine, Sought};
 
 // Copies len bytes of the file from start on to the destination at position to.
 fn copy_part(file: &[u8], start: usize, len: usize, destination: &mut [u8], to: usize)
@@ -18,35 +18,23 @@ fn copy_part(file: &[u8], start: usize, len: usize, destination: &mut [u8], to: 
 }
 
 // Puts the payloads at the front, in file order.
-pub fn put_in_order(file: &[u8], kind: u32, instance: u16, destination: &mut [u8])
-    requires { length (payloads (mine_of file.now kind instance)) ≤ length destination.old }
-    ensures { destination.new ≡ put_at destination.old 0 (payloads (mine_of file.now kind instance)) }
+pub fn put_in_order(sought: Sought, destination: &mut [u8])
+    requires { length (payloads (mine_of sought.file.now sought.kind sought.instance)) ≤ length destination.old }
+    ensures { destination.new ≡ put_at destination.old 0 (payloads (mine_of sought.entry.file.now sought.entry.kind sought.entry.instance)) }
 {
     let mut at: usize = 2;
     let mut to: usize = 0;
     loop {
-        if let Some(here) = packets::mine_here(file, kind, instance, at) {
-            copy_part(file, at + 20, here - 18, destination, to);
+        if let Some(here) = sought.here(at) {
+            copy_part(sought.file, at + 20, here - 18, destination, to);
             to += here - 18;
             at = at + 2 + here;
+        } else if let Some(mine) = sought.next_from(at) {
+            copy_part(sought.file, mine.start, mine.len, destination, to);
+            to += mine.len;
+            at = mine.next;
         } else {
-            match packets::next_mine(file, kind, instance, at) {
-                None => {
-                    return;
-                }
-                Some(
-                    Mine {
-                        head: _,
-                        start,
-                        len,
-                        next,
-                    },
-                ) => {
-                    copy_part(file, start, len, destination, to);
-                    to += len;
-                    at = next;
-                }
-            }
+            return;
         }
     }
 }
@@ -54,69 +42,49 @@ pub fn put_in_order(file: &[u8], kind: u32, instance: u16, destination: &mut [u8
 // Puts the payloads of the k packets behind number `passed` at position to, and answers the position after them. One walk of the
 // file finds where they stand.
 fn put_window(
-    file: &[u8],
-    kind: u32,
-    instance: u16,
+    sought: Sought,
     passed: usize,
     k: usize,
     places: &mut [usize],
     destination: &mut [u8],
     to: usize,
 ) -> usize
-    requires { Windowed (mine_of file.now kind instance) passed k (length places.old) to (length destination.old) }
-    ensures { (destination.new ≡ put_at destination.old to (joined_from k (passed + 1) (mine_of file.now kind instance)))
-        × (result ≡ to + length (joined_from k (passed + 1) (mine_of file.now kind instance))) }
+    requires { Windowed (mine_of sought.file.now sought.kind sought.instance) passed k (length places.old) to (length destination.old) }
+    ensures { (destination.new ≡ put_at destination.old to (joined_from k (passed + 1) (mine_of sought.entry.file.now sought.entry.kind sought.entry.instance)))
+        × (result ≡ to + length (joined_from k (passed + 1) (mine_of sought.entry.file.now sought.entry.kind sought.entry.instance))) }
 {
-    windows::locate(file, kind, instance, passed, places);
+    windows::locate(sought, passed, places);
     let mut end = to;
     for i in 0..k {
-        match packets::next_mine(file, kind, instance, places[i]) {
-            None => {
-                return end;
-            }
-            Some(
-                Mine {
-                    head: _,
-                    start,
-                    len,
-                    next: _,
-                },
-            ) => {
-                copy_part(file, start, len, destination, end);
-                end += len;
-            }
-        }
+        let Some(Mine { start, len, .. }) = sought.next_from(places[i]) else {
+            return end;
+        };
+        copy_part(sought.file, start, len, destination, end);
+        end += len;
     }
     end
 }
 
 // Puts the payloads of n packets at the front, by number, with an array that takes the places of a window.
-fn put_windows(
-    file: &[u8],
-    kind: u32,
-    instance: u16,
-    n: usize,
-    places: &mut [usize],
-    destination: &mut [u8],
-)
-    requires { (0 < length places.old) × Numbered (mine_of file.now kind instance) n (length destination.old) }
-    ensures { destination.new ≡ put_at destination.old 0 (joined (mine_of file.now kind instance)) }
+fn put_windows(sought: Sought, n: usize, places: &mut [usize], destination: &mut [u8])
+    requires { (0 < length places.old) × Numbered (mine_of sought.file.now sought.kind sought.instance) n (length destination.old) }
+    ensures { destination.new ≡ put_at destination.old 0 (joined (mine_of sought.entry.file.now sought.entry.kind sought.entry.instance)) }
 {
     let mut passed: usize = 0;
     let mut to: usize = 0;
     // A while: the windows are of varying width.
     while passed < n {
         let k = windows::lesser(n - passed, places.len());
-        to = put_window(file, kind, instance, passed, k, places, destination, to);
+        to = put_window(sought, passed, k, places, destination, to);
         passed += k;
     }
 }
 
 // Puts the payloads of n packets at the front, by number.
-pub fn put_by_number(file: &[u8], kind: u32, instance: u16, n: usize, destination: &mut [u8])
-    requires { Numbered (mine_of file.now kind instance) n (length destination.old) }
-    ensures { destination.new ≡ put_at destination.old 0 (joined (mine_of file.now kind instance)) }
+pub fn put_by_number(sought: Sought, n: usize, destination: &mut [u8])
+    requires { Numbered (mine_of sought.file.now sought.kind sought.instance) n (length destination.old) }
+    ensures { destination.new ≡ put_at destination.old 0 (joined (mine_of sought.entry.file.now sought.entry.kind sought.entry.instance)) }
 {
     let mut places = [0usize; 16384];
-    put_windows(file, kind, instance, n, &mut places, destination);
+    put_windows(sought, n, &mut places, destination);
 }

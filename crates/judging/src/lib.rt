@@ -11,7 +11,7 @@ ghost use Rattle.judging.specs.Code.{ReadyIs};
 
 use answers::Refusal;
 use box_rules::Head;
-use packets::Mine;
+use packets::{Mine, Sought};
 use scans::{Fault, Scan};
 
 // A box whose bytes can be handed out: how many packets, how many bytes, and whether the packets stand in order.
@@ -24,20 +24,20 @@ pub struct Ready {
 
 // What is wrong with the sequence numbers of the packets. Packets that stand in order need no search, where none of 1 to n is
 // missing none stands twice, and of numbers that rise none does.
-fn fault_of(file: &[u8], kind: u32, instance: u16, h: Head, c: Scan) -> Fault
-    requires { Scanned (mine_of file.now kind instance) h c }
-    ensures { result ≡ fault_of (numbers (mine_of file.now kind instance)) }
+fn fault_of(sought: Sought, h: Head, c: Scan) -> Fault
+    requires { Scanned (mine_of sought.file.now sought.kind sought.instance) h c }
+    ensures { result ≡ fault_of (numbers (mine_of sought.entry.file.now sought.entry.kind sought.entry.instance)) }
 {
     if c.ordered {
         return Fault::Fine;
     }
-    match windows::first_missing(file, kind, instance, c.n) {
+    match windows::first_missing(sought, c.n) {
         None => Fault::Fine,
         Some(m) => {
             if c.rising {
                 return Fault::Missing(m);
             }
-            match numbers::first_twice(file, kind, instance) {
+            match numbers::first_twice(sought) {
                 Some(q) => Fault::Twice(q),
                 None => Fault::Missing(m),
             }
@@ -67,16 +67,9 @@ fn not(number: u32, place: usize) -> Result<Ready, Refusal>
 }
 
 // Whether the packets of a type and instance, of which the first has the head h, make a box that fits into so many bytes.
-fn checked(
-    file: &[u8],
-    kind: u32,
-    instance: u16,
-    h: Head,
-    c: Scan,
-    room: usize,
-) -> Result<Ready, Refusal>
-    requires { Scanned (mine_of file.now kind instance) h c }
-    ensures { ReadyIs (mine_of file.now kind instance) room (assembled room h (mine_of file.now kind instance)) result }
+fn checked(sought: Sought, h: Head, c: Scan, room: usize) -> Result<Ready, Refusal>
+    requires { Scanned (mine_of sought.file.now sought.kind sought.instance) h c }
+    ensures { ReadyIs (mine_of sought.entry.file.now sought.entry.kind sought.entry.instance) room (assembled room h (mine_of sought.entry.file.now sought.entry.kind sought.entry.instance)) result }
 {
     let n = c.n;
     let total = c.total;
@@ -84,7 +77,7 @@ fn checked(
     if !c.agree {
         return not(5, 0);
     }
-    match fault_of(file, kind, instance, h, c) {
+    match fault_of(sought, h, c) {
         Fault::Twice(q) => not(6, q),
         Fault::Missing(q) => not(7, q),
         Fault::Fine => {
@@ -100,26 +93,19 @@ fn checked(
 }
 
 // Whether a file has the box of a type and instance, and it fits into so many bytes.
-pub fn judged(file: &[u8], kind: u32, instance: u16, room: usize) -> Result<Ready, Refusal>
-    ensures { ReadyIs (mine_of file.now kind instance) room (box_bytes file.now kind instance room) result }
+pub fn judged(sought: Sought, room: usize) -> Result<Ready, Refusal>
+    ensures { ReadyIs (mine_of sought.entry.file.now sought.entry.kind sought.entry.instance) room (box_bytes sought.entry.file.now sought.entry.kind sought.entry.instance room) result }
 {
-    match packets::next_mine(file, kind, instance, 2) {
-        None => match packets::walk_all(file) {
+    match sought.next_from(2) {
+        None => match packets::walk_all(sought.file) {
             Err(r) => Err(r),
             Ok(_) => not(4, 0),
         },
-        Some(
-            Mine {
-                head,
-                start: _,
-                len: _,
-                next: _,
-            },
-        ) => {
-            let c = scans::scan_all(file, kind, instance, head);
-            match packets::walk_on(file, c.end) {
+        Some(Mine { head, .. }) => {
+            let c = scans::scan_all(sought, head);
+            match packets::walk_on(sought.file, c.end) {
                 Err(r) => Err(r),
-                Ok(_) => checked(file, kind, instance, head, c, room),
+                Ok(_) => checked(sought, head, c, room),
             }
         }
     }

@@ -7,7 +7,7 @@ ghost use Rattle.box_rules.specs.Numbers.{numbers_from, count, least, first_twic
 ghost use Rattle.numbers.specs.Code.{chosen, TwiceIn};
 ghost use Rattle.box_rules.specs.Numbers.{within as Numbers·within};
 
-use packets::Mine;
+use packets::{Mine, Sought};
 
 fn within(lo: usize, hi: usize, x: usize) -> bool
     ensures { result ≡ Numbers·within lo hi x }
@@ -58,29 +58,16 @@ fn least_twice(held: &[u32]) -> Option<usize>
 }
 
 // How many packets have a number from lo on and below hi.
-fn count_between(file: &[u8], kind: u32, instance: u16, lo: usize, hi: usize) -> usize
-    ensures { result ≡ between lo hi (numbers_from file.now kind instance 2) }
+fn count_between(sought: Sought, lo: usize, hi: usize) -> usize
+    ensures { result ≡ between lo hi (numbers_from sought.entry.file.now sought.entry.kind sought.entry.instance 2) }
 {
     let mut at: usize = 2;
     let mut n: usize = 0;
-    loop {
-        match packets::next_mine(file, kind, instance, at) {
-            None => {
-                return n;
-            }
-            Some(
-                Mine {
-                    head,
-                    start: _,
-                    len: _,
-                    next,
-                },
-            ) => {
-                n = tick(n, within(lo, hi, head.number as usize));
-                at = next;
-            }
-        }
+    while let Some(Mine { head, next, .. }) = sought.next_from(at) {
+        n = tick(n, within(lo, hi, head.number as usize));
+        at = next;
     }
+    n
 }
 
 fn past(m: usize, x: u32) -> usize
@@ -95,39 +82,26 @@ fn past(m: usize, x: u32) -> usize
 }
 
 // A number that is above each number of a packet.
-fn past_all(file: &[u8], kind: u32, instance: u16) -> usize
+fn past_all(sought: Sought) -> usize
     ensures upper_bound { result ≤ 4294967296 }
-    ensures by_index { (q : ℕ) → result ≤ q → count q (numbers_from file.now kind instance 2) ≡ 0 }
+    ensures by_index { (q : ℕ) → result ≤ q → count q (numbers_from sought.entry.file.now sought.entry.kind sought.entry.instance 2) ≡ 0 }
 {
     let mut at: usize = 2;
     let mut m: usize = 0;
-    loop {
-        match packets::next_mine(file, kind, instance, at) {
-            None => {
-                return m;
-            }
-            Some(
-                Mine {
-                    head,
-                    start: _,
-                    len: _,
-                    next,
-                },
-            ) => {
-                m = past(m, head.number);
-                at = next;
-            }
-        }
+    while let Some(Mine { head, next, .. }) = sought.next_from(at) {
+        m = past(m, head.number);
+        at = next;
     }
+    m
 }
 
 // Where the window that begins at lo ends: as far on, up to `top`, as it has no more packets than `cap`; one number at least.
-fn window_end(file: &[u8], kind: u32, instance: u16, lo: usize, top: usize, cap: usize) -> usize
+fn window_end(sought: Sought, lo: usize, top: usize, cap: usize) -> usize
     requires { (lo < top) × (top ≤ 4294967296) }
     ensures lower_bound { (lo < result) × (result ≤ top) }
-    ensures instance_bound { (result ≡ lo + 1 → ⊥) → between lo result (numbers_from file.now kind instance 2) ≤ cap }
+    ensures instance_bound { (result ≡ lo + 1 → ⊥) → between lo result (numbers_from sought.entry.file.now sought.entry.kind sought.entry.instance 2) ≤ cap }
 {
-    if count_between(file, kind, instance, lo, top) <= cap {
+    if count_between(sought, lo, top) <= cap {
         return top;
     }
     let mut good = lo + 1;
@@ -135,7 +109,7 @@ fn window_end(file: &[u8], kind: u32, instance: u16, lo: usize, top: usize, cap:
     // A while: each step halves what lies between.
     while good + 1 < bad {
         let middle = good + (bad - good) / 2;
-        if count_between(file, kind, instance, lo, middle) <= cap {
+        if count_between(sought, lo, middle) <= cap {
             good = middle;
         } else {
             bad = middle;
@@ -145,68 +119,48 @@ fn window_end(file: &[u8], kind: u32, instance: u16, lo: usize, top: usize, cap:
 }
 
 // Takes the numbers from lo on and below hi in hand, in file order, and answers how many.
-fn gather(file: &[u8], kind: u32, instance: u16, lo: usize, hi: usize, held: &mut [u32]) -> usize
-    requires { between lo hi (numbers_from file.now kind instance 2) ≤ length held.old }
-    ensures { (take result held.new ≡ chosen lo hi (numbers_from file.now kind instance 2)) × (result ≤ length held.old) }
+fn gather(sought: Sought, lo: usize, hi: usize, held: &mut [u32]) -> usize
+    requires { between lo hi (numbers_from sought.file.now sought.kind sought.instance 2) ≤ length held.old }
+    ensures { (take result held.new ≡ chosen lo hi (numbers_from sought.entry.file.now sought.entry.kind sought.entry.instance 2)) × (result ≤ length held.old) }
 {
     let mut at: usize = 2;
     let mut k: usize = 0;
-    loop {
-        match packets::next_mine(file, kind, instance, at) {
-            None => {
-                return k;
-            }
-            Some(
-                Mine {
-                    head,
-                    start: _,
-                    len: _,
-                    next,
-                },
-            ) => {
-                let number = head.number;
-                if within(lo, hi, number as usize) {
-                    held[k] = number;
-                    k += 1;
-                }
-                at = next;
-            }
+    while let Some(Mine { head, next, .. }) = sought.next_from(at) {
+        let number = head.number;
+        if within(lo, hi, number as usize) {
+            held[k] = number;
+            k += 1;
         }
+        at = next;
     }
+    k
 }
 
 // The smallest number of a window that stands twice.
-fn twice_in(
-    file: &[u8],
-    kind: u32,
-    instance: u16,
-    lo: usize,
-    hi: usize,
-    held: &mut [u32],
-) -> Option<usize>
-    requires { (lo < hi) × (hi ≤ 4294967296) × ((hi ≡ lo + 1 → ⊥) → between lo hi (numbers_from file.now kind instance 2) ≤ length held.old) }
-    ensures { TwiceIn lo hi (numbers_from file.now kind instance 2) result }
+fn twice_in(sought: Sought, lo: usize, hi: usize, held: &mut [u32]) -> Option<usize>
+    requires { (lo < hi) × (hi ≤ 4294967296) × ((hi ≡ lo + 1 → ⊥) → between lo hi (numbers_from sought.file.now sought.kind sought.instance 2) ≤ length held.old) }
+    ensures { TwiceIn lo hi (numbers_from sought.entry.file.now sought.entry.kind sought.entry.instance 2) result }
 {
     if hi == lo + 1 {
-        if count_between(file, kind, instance, lo, hi) <= 1 {
+        if count_between(sought, lo, hi) <= 1 {
             return None;
         }
         return Some(lo);
     }
-    let k = gather(file, kind, instance, lo, hi, held);
+    let k = gather(sought, lo, hi, held);
     least_twice(&held[..k])
 }
 
 // The smallest sequence number that stands twice, with an array that takes the numbers of a window.
-fn twice_by(file: &[u8], kind: u32, instance: u16, held: &mut [u32]) -> Option<usize>
-    ensures { result ≡ first_twice (numbers_from file.now kind instance 2) }
+fn twice_by(sought: Sought, held: &mut [u32]) -> Option<usize>
+    ensures { result ≡ first_twice (numbers_from sought.entry.file.now sought.entry.kind sought.entry.instance 2) }
 {
-    let top = past_all(file, kind, instance);
+    let top = past_all(sought);
     let mut lo: usize = 0;
     // A while: the windows are of varying width.
     while lo < top {
-        let hi = window_end(file, kind, instance, lo, top, held.len());
-        match twice_in(file, kind, instance, lo, hi, held) {
+        let hi = window_end(sought, lo, top, held.len());
+        match twice_in(sought, lo, hi, held) {
             Some(q) => {
                 return Some(q);
             }
@@ -219,9 +173,9 @@ fn twice_by(file: &[u8], kind: u32, instance: u16, held: &mut [u32]) -> Option<u
 }
 
 // The smallest sequence number that stands twice.
-pub fn first_twice(file: &[u8], kind: u32, instance: u16) -> Option<usize>
-    ensures { result ≡ first_twice (numbers_from file.now kind instance 2) }
+pub fn first_twice(sought: Sought) -> Option<usize>
+    ensures { result ≡ first_twice (numbers_from sought.entry.file.now sought.entry.kind sought.entry.instance 2) }
 {
     let mut held = [0u32; 16384];
-    twice_by(file, kind, instance, &mut held)
+    twice_by(sought, &mut held)
 }

@@ -1,4 +1,4 @@
--- What `next_mine` ensures, once its answer is known. Assumes nothing.
+-- What `next_from` ensures, once its answer is known. Assumes nothing.
 use Prim.Native.Nat.{ℕ}
 use mathlib.Core.Path.{◌≡◌, subst}
 use mathlib.Core.List.{List, [], ◌∷◌}
@@ -36,7 +36,7 @@ module _ (file : List ℕ) (kind instance at : ℕ) where
   unfolding mine_from mine
   mine_met e w = rw (packets_meet file at e, w)
 
-  -- what `next_mine` ensures, once its answer is known
+  -- what `next_from` ensures, once its answer is known
   pub met : {r : Option Mine} {m : Mine} → NextIs file kind instance at r → r ≡ Some m → Met file kind instance at m.head m.start m.len m.next
   met n e = subst (NextIs file kind instance at) e n
 

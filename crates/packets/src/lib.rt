@@ -19,6 +19,14 @@ pub struct Mine {
     pub next: usize,
 }
 
+// The packets of a type and instance in a file.
+#[derive(Clone, Copy)]
+pub struct Sought<'a> {
+    pub file: &'a [u8],
+    pub kind: u32,
+    pub instance: u16,
+}
+
 // Whether FF EB stand at a position, and 4A 50 behind a length.
 fn marked_here(file: &[u8], at: usize) -> bool
     requires { at + 19 < length file.now }
@@ -127,55 +135,58 @@ pub fn walk_all(file: &[u8]) -> Result<usize, Refusal>
     walk_on(file, 2)
 }
 
-fn is_mine(kind: u32, instance: u16, head: Head) -> bool
-    ensures { result ≡ is_mine kind instance head }
-{
-    head.kind == kind && head.instance == instance
-}
-
-// The same quick look for a packet of a type and instance.
-pub fn mine_here(file: &[u8], kind: u32, instance: u16, at: usize) -> Option<usize>
-    ensures { IfSome result (λ len. MineHere file.now kind instance at len) }
-{
-    let len = packet_here(file, at)?;
-    if is_mine(kind, instance, segments::head_at(file, at + 1)) {
-        Some(len)
-    } else {
-        None
+impl<'a> Sought<'a> {
+    // Whether a packet with this head is one of them.
+    fn is_mine(self, head: Head) -> bool
+        ensures { result ≡ is_mine self.entry.kind self.entry.instance head }
+    {
+        head.kind == self.kind && head.instance == self.instance
     }
-}
 
-// The next packet of a type and instance, from a position on.
-pub fn next_mine(file: &[u8], kind: u32, instance: u16, from: usize) -> Option<Mine>
-    ensures { NextIs file.now kind instance from result }
-{
-    let mut at = from;
-    loop {
-        match step_at(file, at) {
-            Step::End => {
-                return None;
-            }
-            Step::Broken(_) => {
-                return None;
-            }
-            Step::Skip(next) => {
-                at = next;
-            }
-            Step::Meet {
-                head,
-                start,
-                len,
-                next,
-            } => {
-                if is_mine(kind, instance, head) {
-                    return Some(Mine {
-                        head,
-                        start,
-                        len,
-                        next,
-                    });
+    // The quick look for one of them.
+    pub fn here(self, at: usize) -> Option<usize>
+        ensures { IfSome result (λ len. MineHere self.entry.file.now self.entry.kind self.entry.instance at len) }
+    {
+        let len = packet_here(self.file, at)?;
+        if self.is_mine(segments::head_at(self.file, at + 1)) {
+            Some(len)
+        } else {
+            None
+        }
+    }
+
+    // The next of them, from a position on.
+    pub fn next_from(self, from: usize) -> Option<Mine>
+        ensures { NextIs self.entry.file.now self.entry.kind self.entry.instance from result }
+    {
+        let mut at = from;
+        loop {
+            match step_at(self.file, at) {
+                Step::End => {
+                    return None;
                 }
-                at = next;
+                Step::Broken(_) => {
+                    return None;
+                }
+                Step::Skip(next) => {
+                    at = next;
+                }
+                Step::Meet {
+                    head,
+                    start,
+                    len,
+                    next,
+                } => {
+                    if self.is_mine(head) {
+                        return Some(Mine {
+                            head,
+                            start,
+                            len,
+                            next,
+                        });
+                    }
+                    at = next;
+                }
             }
         }
     }

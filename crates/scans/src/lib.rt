@@ -7,7 +7,7 @@ ghost use Rattle.box_rules.specs.Box.{alike as Box·alike};
 ghost use Rattle.scans.specs.Code.{mine_of, Scanned, found_more};
 
 use box_rules::Head;
-use packets::Mine;
+use packets::Sought;
 
 // What one pass over the packets of a type and instance finds. `above` is the number behind the last one, `end` where it stopped.
 #[derive(Clone, Copy)]
@@ -65,9 +65,9 @@ fn found_more(s: Scan, h: Head, head: Head, len: usize, next: usize) -> Scan
 }
 
 // One pass over the packets of a type and instance, of which the first has the head h.
-pub fn scan_all(file: &[u8], kind: u32, instance: u16, h: Head) -> Scan
-    ensures scanned { Scanned (mine_of file.now kind instance) h result }
-    ensures end_value { ending (walk_from file.now result.end) ≡ ending (walk file.now) }
+pub fn scan_all(sought: Sought, h: Head) -> Scan
+    ensures scanned { Scanned (mine_of sought.entry.file.now sought.entry.kind sought.entry.instance) h result }
+    ensures end_value { ending (walk_from sought.entry.file.now result.end) ≡ ending (walk sought.entry.file.now) }
 {
     let mut s = Scan {
         n: 0,
@@ -80,25 +80,13 @@ pub fn scan_all(file: &[u8], kind: u32, instance: u16, h: Head) -> Scan
     };
     loop {
         let at = s.end;
-        if let Some(here) = packets::mine_here(file, kind, instance, at) {
-            let head = segments::head_at(file, at + 1);
+        if let Some(here) = sought.here(at) {
+            let head = segments::head_at(sought.file, at + 1);
             s = found_more(s, h, head, here - 18, at + 2 + here);
+        } else if let Some(mine) = sought.next_from(at) {
+            s = found_more(s, h, mine.head, mine.len, mine.next);
         } else {
-            match packets::next_mine(file, kind, instance, at) {
-                None => {
-                    return s;
-                }
-                Some(
-                    Mine {
-                        head,
-                        start: _,
-                        len,
-                        next,
-                    },
-                ) => {
-                    s = found_more(s, h, head, len, next);
-                }
-            }
+            return s;
         }
     }
 }

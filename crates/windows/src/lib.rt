@@ -6,7 +6,7 @@ ghost use Rattle.laws.specs.First.{first_fail};
 ghost use Rattle.box_rules.specs.Numbers.{numbers_from, missing_from};
 ghost use Rattle.windows.specs.Code.{Located, marked};
 
-use packets::Mine;
+use packets::{Mine, Sought};
 
 // Notes a position for a number, if it is one of the window's.
 fn mark(places: &mut [usize], passed: usize, number: usize, at: usize)
@@ -22,28 +22,14 @@ fn mark(places: &mut [usize], passed: usize, number: usize, at: usize)
 }
 
 // Finds where the packets numbered passed + 1, passed + 2, .. stand, as many as there are places, in one walk of the file.
-pub fn locate(file: &[u8], kind: u32, instance: u16, passed: usize, places: &mut [usize])
-    ensures { Located file.now kind instance passed places.new }
+pub fn locate(sought: Sought, passed: usize, places: &mut [usize])
+    ensures { Located sought.entry.file.now sought.entry.kind sought.entry.instance passed places.new }
 {
     places.fill(0);
     let mut at: usize = 2;
-    loop {
-        match packets::next_mine(file, kind, instance, at) {
-            None => {
-                return;
-            }
-            Some(
-                Mine {
-                    head,
-                    start: _,
-                    len: _,
-                    next,
-                },
-            ) => {
-                mark(places, passed, head.number as usize, at);
-                at = next;
-            }
-        }
+    while let Some(Mine { head, next, .. }) = sought.next_from(at) {
+        mark(places, passed, head.number as usize, at);
+        at = next;
     }
 }
 
@@ -67,20 +53,14 @@ fn first_gone(places: &[usize], k: usize) -> Option<usize>
 }
 
 // The smallest of 1 to n that is missing, with an array that takes the places of a window.
-fn missing_by(
-    file: &[u8],
-    kind: u32,
-    instance: u16,
-    n: usize,
-    places: &mut [usize],
-) -> Option<usize>
+fn missing_by(sought: Sought, n: usize, places: &mut [usize]) -> Option<usize>
     requires { 0 < length places.old }
-    ensures { result ≡ missing_from n 1 (numbers_from file.now kind instance 2) }
+    ensures { result ≡ missing_from n 1 (numbers_from sought.entry.file.now sought.entry.kind sought.entry.instance 2) }
 {
     let mut passed: usize = 0;
     // A while: the windows are of varying width.
     while passed < n {
-        locate(file, kind, instance, passed, places);
+        locate(sought, passed, places);
         let k = lesser(n - passed, places.len());
         match first_gone(places, k) {
             Some(i) => {
@@ -95,9 +75,9 @@ fn missing_by(
 }
 
 // The smallest of 1 to n that is missing.
-pub fn first_missing(file: &[u8], kind: u32, instance: u16, n: usize) -> Option<usize>
-    ensures { result ≡ missing_from n 1 (numbers_from file.now kind instance 2) }
+pub fn first_missing(sought: Sought, n: usize) -> Option<usize>
+    ensures { result ≡ missing_from n 1 (numbers_from sought.entry.file.now sought.entry.kind sought.entry.instance 2) }
 {
     let mut places = [0usize; 16384];
-    missing_by(file, kind, instance, n, &mut places)
+    missing_by(sought, n, &mut places)
 }

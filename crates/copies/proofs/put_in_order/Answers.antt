@@ -37,21 +37,21 @@ pub loop-here-preserved-in-Some : goal.loop-here-preserved-in-Some
 loop-here-preserved-in-Some c = let m = c.in-Some.ensures in
     (payload_turn c.loop-here.invariant m).1 _ c.copy_part.ensures
 
-pub returns-in-None : goal.returns-in-None
-returns-in-None c = (write_done c.loop-here.invariant (payloads_none (gone _ _ _ _ c.next_mine.ensures c.in-None.is))).0
+pub returns-in_default-next_from : goal.returns-in_default-next_from
+returns-in_default-next_from c = (write_done c.loop-here.invariant (payloads_none (gone _ _ _ _ c.next_from.ensures c.in_default-next_from.is))).0
 
-pub copy_part-requires-in-Some-next_mine : goal.copy_part-requires-in-Some-next_mine
-copy_part-requires-in-Some-next_mine c = let m = met _ _ _ _ c.next_mine.ensures c.in-Some-next_mine.is in
+pub copy_part-requires-in-Some-next_from : goal.copy_part-requires-in-Some-next_from
+copy_part-requires-in-Some-next_from c = let m = met _ _ _ _ c.next_from.ensures c.in-Some-next_from.is in
     (omega arith, (payload_turn c.loop-here.invariant m).0)
 
-pub overflow_add-to-in-Some-next_mine : goal.overflow_add-to-in-Some-next_mine
-overflow_add-to-in-Some-next_mine c = let m = met _ _ _ _ c.next_mine.ensures c.in-Some-next_mine.is in
+pub overflow_add-to-in-Some-next_from : goal.overflow_add-to-in-Some-next_from
+overflow_add-to-in-Some-next_from c = let m = met _ _ _ _ c.next_from.ensures c.in-Some-next_from.is in
     omega (arith, c.well_formed, (payload_turn c.loop-here.invariant m).0, c.loop-here.invariant.size)
 
 pub loop-here-smaller : goal.loop-here-smaller
-loop-here-smaller c = let m = met _ _ _ _ c.next_mine.ensures c.in-Some-next_mine.is in
+loop-here-smaller c = let m = met _ _ _ _ c.next_from.ensures c.in-Some-next_from.is in
     omega arith
 
 pub loop-here-preserved : goal.loop-here-preserved
-loop-here-preserved c = let m = met _ _ _ _ c.next_mine.ensures c.in-Some-next_mine.is in
-    (payload_turn c.loop-here.invariant m).1 _ c.copy_part-in-Some-next_mine.ensures
+loop-here-preserved c = let m = met _ _ _ _ c.next_from.ensures c.in-Some-next_from.is in
+    (payload_turn c.loop-here.invariant m).1 _ c.copy_part-in-Some-next_from.ensures

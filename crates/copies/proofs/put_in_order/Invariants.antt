@@ -8,7 +8,7 @@ use Prim.Native.Nat.{◌-◌}
 use Rattle.copies.proofs.put_in_order.Given as goal
 
 abbrev pub invariant-loop-here : goal.invariant-loop-here
-invariant-loop-here l = Writing l.destination l.to (payloads (mine_from l.file l.kind l.instance l.at)) l.initial.destination 0 (payloads (mine_of l.file l.kind l.instance))
+invariant-loop-here l = Writing l.destination l.to (payloads (mine_from l.sought.file.now l.sought.kind l.sought.instance l.at)) l.initial.destination 0 (payloads (mine_of l.sought.file.now l.sought.kind l.sought.instance))
 
 abbrev pub decreases-loop-here : goal.decreases-loop-here
-decreases-loop-here l = length l.file - l.at
+decreases-loop-here l = length l.sought.file.now - l.at

@@ -6,4 +6,4 @@ use Prim.Native.Nat.{◌+◌, ◌-◌}
 use Rattle.copies.proofs.put_window.Given as goal
 
 abbrev pub invariant-loop-i : goal.invariant-loop-i
-invariant-loop-i l = Writing l.destination l.end (joined_from (l.k - l.i) (l.passed + 1 + l.i) (mine_of l.file l.kind l.instance)) l.initial.destination l.to (joined_from l.k (l.passed + 1) (mine_of l.file l.kind l.instance))
+invariant-loop-i l = Writing l.destination l.end (joined_from (l.k - l.i) (l.passed + 1 + l.i) (mine_of l.sought.file.now l.sought.kind l.sought.instance)) l.initial.destination l.to (joined_from l.k (l.passed + 1) (mine_of l.sought.file.now l.sought.kind l.sought.instance))

@@ -8,7 +8,7 @@ use mathlib.Core.Path.{◌≡◌}
 use Rattle.copies.proofs.put_windows.Given as goal
 
 abbrev pub invariant-loop-passed : goal.invariant-loop-passed
-invariant-loop-passed l = Writing l.destination l.to (joined_from (l.n - l.passed) (l.passed + 1) (mine_of l.file l.kind l.instance)) l.initial.destination 0 (joined (mine_of l.file l.kind l.instance)) × (l.passed ≤ l.n) × (length l.places ≡ length l.initial.places)
+invariant-loop-passed l = Writing l.destination l.to (joined_from (l.n - l.passed) (l.passed + 1) (mine_of l.sought.file.now l.sought.kind l.sought.instance)) l.initial.destination 0 (joined (mine_of l.sought.file.now l.sought.kind l.sought.instance)) × (l.passed ≤ l.n) × (length l.places ≡ length l.initial.places)
 
 abbrev pub decreases-loop-passed : goal.decreases-loop-passed
 decreases-loop-passed l = l.n - l.passed

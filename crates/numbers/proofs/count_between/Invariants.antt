@@ -6,7 +6,7 @@ use mathlib.Core.Path.{◌≡◌}
 use Rattle.numbers.proofs.count_between.Given as goal
 
 abbrev pub invariant-loop-head : goal.invariant-loop-head
-invariant-loop-head l = (l.n + between l.lo l.hi (numbers_from l.file l.kind l.instance l.at) ≡ between l.lo l.hi (numbers_from l.file l.kind l.instance 2)) × (l.n ≤ l.at)
+invariant-loop-head l = (l.n + between l.lo l.hi (numbers_from l.sought.file.now l.sought.kind l.sought.instance l.at) ≡ between l.lo l.hi (numbers_from l.sought.file.now l.sought.kind l.sought.instance 2)) × (l.n ≤ l.at)
 
 abbrev pub decreases-loop-head : goal.decreases-loop-head
-decreases-loop-head l = length l.file - l.at
+decreases-loop-head l = length l.sought.file.now - l.at

@@ -5,12 +5,12 @@ use Rattle.numbers.proofs.Meeting.{numbers_met, numbers_gone}
 use native.Mathlib.Omega.{arith}
 use Rattle.numbers.proofs.past_all.Goals as goal
 
-pub returns-in-None : goal.returns-in-None
-returns-in-None c = record { upper_bound = c.loop-head.invariant.0; by_index = past_end _ _ _ c.loop-head.invariant.1 (numbers_gone _ _ _ _ (gone _ _ _ _ c.next_mine.ensures c.in-None.is)) }
+pub returns : goal.returns
+returns c = record { upper_bound = c.loop-head.invariant.0; by_index = past_end _ _ _ c.loop-head.invariant.1 (numbers_gone _ _ _ _ (gone _ _ _ _ c.next_from.ensures c.in_default.is)) }
 
 pub loop-head-smaller : goal.loop-head-smaller
-loop-head-smaller c = let m = met _ _ _ _ c.next_mine.ensures c.in-Some.is in omega arith
+loop-head-smaller c = let m = met _ _ _ _ c.next_from.ensures c.in-Some.is in omega arith
 
 pub loop-head-preserved : goal.loop-head-preserved
-loop-head-preserved c = let m = met _ _ _ _ c.next_mine.ensures c.in-Some.is in
+loop-head-preserved c = let m = met _ _ _ _ c.next_from.ensures c.in-Some.is in
     (c.past-m.ensures.upper_bound c.loop-head.invariant.0, past_turn _ _ _ c.loop-head.invariant.1 (numbers_met m) c.past-m.ensures.lower_bound)

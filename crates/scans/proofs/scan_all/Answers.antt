@@ -31,16 +31,16 @@ loop-here-smaller-in-Some c = let m = c.in-Some.ensures in rw c.found_more-s.ens
 pub loop-here-preserved-in-Some : goal.loop-here-preserved-in-Some
 loop-here-preserved-in-Some c = pass_turn _ _ _ _ c.loop-here.invariant (c.in-Some.ensures) (rw c.head_at-head.ensures at c.found_more-s.ensures)
 
-pub returns-in-None : goal.returns-in-None
-returns-in-None c = record { scanned = pass_end _ _ _ _ c.loop-here.invariant (gone _ _ _ _ c.next_mine.ensures c.in-None.is); end_value = pass_ending _ _ _ _ c.loop-here.invariant }
+pub returns-in_default-next_from : goal.returns-in_default-next_from
+returns-in_default-next_from c = record { scanned = pass_end _ _ _ _ c.loop-here.invariant (gone _ _ _ _ c.next_from.ensures c.in_default-next_from.is); end_value = pass_ending _ _ _ _ c.loop-here.invariant }
 
-pub found_more-s-requires-in-Some-next_mine : goal.found_more-s-requires-in-Some-next_mine
-found_more-s-requires-in-Some-next_mine c = let m = met _ _ _ _ c.next_mine.ensures c.in-Some-next_mine.is in omega arith
+pub found_more-s-requires-in-Some-next_from : goal.found_more-s-requires-in-Some-next_from
+found_more-s-requires-in-Some-next_from c = let m = met _ _ _ _ c.next_from.ensures c.in-Some-next_from.is in omega arith
 
 pub loop-here-smaller : goal.loop-here-smaller
-loop-here-smaller c = let m = met _ _ _ _ c.next_mine.ensures c.in-Some-next_mine.is in
-    rw c.found_more-s-in-Some-next_mine.ensures (omega arith)
+loop-here-smaller c = let m = met _ _ _ _ c.next_from.ensures c.in-Some-next_from.is in
+    rw c.found_more-s-in-Some-next_from.ensures (omega arith)
 
 pub loop-here-preserved : goal.loop-here-preserved
-loop-here-preserved c = let m = met _ _ _ _ c.next_mine.ensures c.in-Some-next_mine.is in
-    pass_turn _ _ _ _ c.loop-here.invariant m c.found_more-s-in-Some-next_mine.ensures
+loop-here-preserved c = let m = met _ _ _ _ c.next_from.ensures c.in-Some-next_from.is in
+    pass_turn _ _ _ _ c.loop-here.invariant m c.found_more-s-in-Some-next_from.ensures

@@ -5,7 +5,7 @@ use Prim.Native.Nat.{◌-◌}
 use Rattle.windows.proofs.locate.Given as goal
 
 abbrev pub invariant-loop-head : goal.invariant-loop-head
-invariant-loop-head l = Locating l.file l.kind l.instance l.passed l.places l.initial.places l.at
+invariant-loop-head l = Locating l.sought.file.now l.sought.kind l.sought.instance l.passed l.places l.initial.places l.at
 
 abbrev pub decreases-loop-head : goal.decreases-loop-head
-decreases-loop-head l = length l.file - l.at
+decreases-loop-head l = length l.sought.file.now - l.at

@@ -6,7 +6,7 @@ use Prim.Native.Nat.{◌+◌, ◌-◌, ◌≤◌}
 use Rattle.windows.proofs.missing_by.Given as goal
 
 abbrev pub invariant-loop-passed : goal.invariant-loop-passed
-invariant-loop-passed l = (missing_from (l.n - l.passed) (l.passed + 1) (numbers_from l.file l.kind l.instance 2) ≡ missing_from l.n 1 (numbers_from l.file l.kind l.instance 2)) × (l.passed ≤ l.n) × (length l.places ≡ length l.initial.places)
+invariant-loop-passed l = (missing_from (l.n - l.passed) (l.passed + 1) (numbers_from l.sought.file.now l.sought.kind l.sought.instance 2) ≡ missing_from l.n 1 (numbers_from l.sought.file.now l.sought.kind l.sought.instance 2)) × (l.passed ≤ l.n) × (length l.places ≡ length l.initial.places)
 
 abbrev pub decreases-loop-passed : goal.decreases-loop-passed
 decreases-loop-passed l = l.n - l.passed

@@ -1,8 +1,8 @@
--- `packets::mine_here` meets its contract.
+-- `packets::Sought::here` meets its contract.
 use mathlib.Core.Path.{ap, sym, ◌∙◌}
 use Rattle.box_rules.specs.Packets.{is_mine}
 use Rattle.packets.proofs.Quick.{mine_packed}
-use Rattle.packets.proofs.mine_here.Goals as goal
+use Rattle.packets.proofs.Sought.here.Goals as goal
 
 pub returns-then-is_mine : goal.returns-then-is_mine
 returns-then-is_mine c =

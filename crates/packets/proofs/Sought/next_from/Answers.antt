@@ -1,9 +1,9 @@
--- `packets::next_mine` meets its contract: the packets from here on are those from the start on.
+-- `packets::Sought::next_from` meets its contract: the packets from here on are those from the start on.
 use Rattle.box_rules.proofs.Walking.{forward_skip, forward_meet, ending_skip, ending_meet}
 use Rattle.packets.proofs.Meeting.{mine_end, mine_broken, mine_skip, mine_other, mine_met}
 use mathlib.Core.Path.{sym, ◌∙◌}
 use native.Mathlib.Omega.{arith}
-use Rattle.packets.proofs.next_mine.Goals as goal
+use Rattle.packets.proofs.Sought.next_from.Goals as goal
 
 pub returns-in-End : goal.returns-in-End
 returns-in-End c = sym c.loop-next.invariant.0 ∙ mine_end _ _ _ _ (sym c.step_at.ensures ∙ c.in-End.is)
