@@ -72,7 +72,7 @@ fn put_windows(sought: Sought, n: usize, places: &mut [usize], destination: &mut
 {
     let mut passed: usize = 0;
     let mut to: usize = 0;
-    // A while: the windows are of varying width.
+    // A while: the numbers are passed by windows, of which the last may be narrower.
     while passed < n {
         let k = windows::lesser(n - passed, places.len());
         to = put_window(sought, passed, k, places, destination, to);

@@ -58,7 +58,7 @@ fn missing_by(sought: Sought, n: usize, places: &mut [usize]) -> Option<usize>
     ensures { result ≡ missing_from n 1 (numbers_from sought.entry.file.now sought.entry.kind sought.entry.instance 2) }
 {
     let mut passed: usize = 0;
-    // A while: the windows are of varying width.
+    // A while: the numbers are passed by windows, of which the last may be narrower.
     while passed < n {
         locate(sought, passed, places);
         let k = lesser(n - passed, places.len());
