@@ -1,5 +1,5 @@
 -- What the code's steps through a block stand for: a task carried out from a position on.
-use Rattle.std.specs.Prelude.{◌≡◌, List, ◌++◌, ℕ, ◌≤◌, ◌<◌, ℤ, length, take, drop, Option, Result, Ok, Err}
+use Rattle.std.specs.Prelude.{◌≡◌, List, ◌++◌, ℕ, ◌≤◌, ◌<◌, ℤ, length, take, drop, Option, None, Result, Ok, Err}
 use Rattle.bit_rules.specs.Source.{Source, Stop, Out, got, stopped, stop}
 use Rattle.bits.specs.Code.{bits_in}
 use Rattle.bits.specs.declared.BitReader.{BitReader}
@@ -30,7 +30,7 @@ pub record Carries (values before now : List ℤ) (o o' : Option Task) (s t : So
 pub record Halts (values before : List ℤ) (o : Option Task) (s : Source) (i : ℕ) (x : Stop) : Type 0 where
   pub same : (T : Table) (left : ℕ) (o₀ : Option Task) (s₀ : Source) → At T left values before o₀ o s₀ s i → stopped x ≡ ac_block T left o₀ values s₀
 
--- what the code came to: further on, where a position was left
+-- what the code came to: further on, where a position was left, and done, where one is left behind it
 abbrev pub Steps : List ℤ → List ℤ → List ℤ → Option Task → Source → ℕ → BitReader → Result Moved Refused → Type 0
-Steps values before now o s i r (Ok moved) = Carries values before now o (open_of moved.task) s (bits_in r) i moved.at × (i < length values → i < moved.at)
+Steps values before now o s i r (Ok moved) = Carries values before now o (open_of moved.task) s (bits_in r) i moved.at × (i < length values → i < moved.at) × (moved.at < length values → moved.task ≡ None)
 Steps values before now o s i r (Err x) = Halts values before o s i (stop x.number x.offset)

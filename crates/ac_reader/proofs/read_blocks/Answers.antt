@@ -28,7 +28,7 @@ read_block-read-requires c = record {
 pub returns-in-Err : goal.returns-in-Err
 unfolding read_as
 returns-in-Err c = let here = goal.at.returns-in-Err c in
-    behind_stopped c.loop-block.invariant c.loop-block-test.true (omega (arith, c.requires.blocks_in_bounds)) c.read_block-read.new.destination (long here.After-read_block-read) c.in-Err.ensures
+    rw c.refused.ensures (behind_stopped c.loop-block.invariant c.loop-block-test.true (omega (arith, c.requires.blocks_in_bounds)) c.read_block-read.new.destination (long here.After-read_block-read) c.in-Err.ensures)
 
 pub loop-block-preserved : goal.loop-block-preserved
 unfolding read_as

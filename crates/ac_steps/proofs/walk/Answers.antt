@@ -1,5 +1,5 @@
 -- `ac_steps::walk` meets its contract: what the block came to from `from` on carries to position i. Assumes nothing.
-use mathlib.Core.Path.{◌≡◌, sym, ap, ◌∙◌}
+use mathlib.Core.Path.{◌≡◌, refl, sym, ap, ◌∙◌}
 use native.Mathlib.Omega.{arith}
 use lib.IntN.{pos}
 use lib.ListN.{get_or}
@@ -18,6 +18,7 @@ returns-then-n-eq0 c = let old : to_z w32 (of_z w32 (get_or c.args.values.now c.
   rw (back w32 _ c.aimed.type_inv, c.aimed.ensures)
       (carries_landed c.loop-i.n c.args.leave c.args.sign c.loop-i.invariant c.loop-i-test.true (sym old ∙ ap (to_z w32) c.if-v-eq0.true) c.if-n-eq0.true),
   omega arith,
+  λ h. refl,
 )
 
 pub returns-in_err-destination : goal.returns-in_err-destination
