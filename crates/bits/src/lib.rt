@@ -22,11 +22,11 @@ pub struct Stop {
 // The lent data and a place in them: the offset of the byte that the last bit came from, bytes read so far, and the unread bits of the last one, `left` of them, the highest of `byte`.
 #[derive(Clone, Copy)]
 pub struct BitReader<'a> {
-    data: &'a [u8],
-    last: usize,
-    at: usize,
-    left: u8,
-    byte: u8,
+    pub data: &'a [u8],
+    pub last: usize,
+    pub at: usize,
+    pub left: u8,
+    pub byte: u8,
 }
 
 impl<'a> BitReader<'a> {
