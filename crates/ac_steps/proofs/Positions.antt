@@ -9,7 +9,7 @@ use native.Mathlib.Omega.{arith}
 use lib.IntN.{ℤ, pos}
 use lib.ListN.{length, get_or, take, drop, set, length-set, drop_of_length-le}
 use lib.Seq.{drop-cons, take-suc-set, append_snoc, take_all}
-use Rattle.bit_rules.specs.Source.{Source, Stop, Out, got, stopped, take_bit}
+use Rattle.bit_rules.specs.Source.{Source, Stop, Out, got, stopped, stop, take_bit}
 use Rattle.bit_rules.specs.Reader.{and_then, done}
 use Rattle.bit_rules.specs.Table.{Table}
 use Rattle.plane_rules.specs.Task.{Task, walk, at_zero, pass}
@@ -80,6 +80,12 @@ module _ {T : Table} {left : ℕ} {values now : List ℤ} {o₀ o : Option Task}
           }
 
 -- ---- the same of what the code comes to from a position on
+
+-- an open walk at the block's end has "no place left in the block"
+pub carries_out : {values before now : List ℤ} {o : Option Task} {s : Source} {i j m : ℕ} {b : Option Bool} (r : BitReader) → Carries values before now o (Some (walk m b)) s (bits_in r) i j → length values ≤ j
+    → Halts values before o s i (stop 16 (bits_in r).last)
+unfolding read_as block_end
+carries_out r k h = record { same = λ T left o₀ s₀ a. at_end (k.same T left o₀ s₀ a) r (Err (record { number = 16; offset = (bits_in r).last })) h refl }
 
 module _ {values before now : List ℤ} {o : Option Task} {t : Task} {s u : Source} {i j : ℕ} (k : Carries values before now o (Some t) s u i j) (h : j < length values) where
   -- a zero

@@ -5,7 +5,7 @@ ghost use Rattle.std.specs.Prelude.{◌≡◌, ◌≤◌, ◌<◌};
 ghost use Rattle.asking.specs.Words.{read_from, type_of, instance_of};
 ghost use Rattle.asking.specs.Words.{digit as Words·digit};
 
-// The value of a hexadecimal digit, or 255.
+// The value of a hexadecimal digit, or 255. (A number and no Option: the rule `digit` says 255.)
 fn digit(b: usize) -> usize
     ensures { (result ≡ Words·digit b) × (result < 256) }
 {

@@ -9,7 +9,7 @@ ghost use Rattle.test_rules.specs.Runs.{goes_on, counted as Runs·counted, begun
 use answers::Answer;
 use test_rules::{Finding, Run};
 
-// What a call must leave at an index: 0 after a refusal, else the byte expected, and behind those the 7 of before.
+// What a call must leave at an index: 0 after a refusal, else the byte expected, and behind those the 7 of before. (`number` is a call's for C, by which 0 is done.)
 fn wanted_byte(expected: &[u8], number: usize, i: usize) -> u8
     ensures { result ≡ wanted 0 7 expected.now number i }
 {

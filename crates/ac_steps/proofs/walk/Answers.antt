@@ -37,3 +37,6 @@ loop-i-preserved c = let old : to_z w32 (of_z w32 (get_or c.args.values.now c.lo
           (carries_fixed c.loop-i.invariant c.loop-i-test.true (λ e. w.if-v-eq0.false (ap (of_z w32) e))
           (rw (back w32 w.in_ok-destination.field-0 (search rules)) (rw old at (sym w.in_ok-destination.ensures))))
     ]
+
+-- `returns` itself, an open walk that is handed on behind the last position, the search finds: by `walking`'s promise
+-- it is the task of the invariant. (Where the walk stops there instead, `carries_out` says with what.)
