@@ -1,11 +1,11 @@
 -- What the code's steps through a block stand for: a task carried out from a position on.
-use Rattle.std.specs.Prelude.{◌≡◌, List, ◌++◌, ℕ, ◌≤◌, ◌<◌, ℤ, length, take, drop, Option, None, Result, Ok, Err}
+use Rattle.std.specs.Prelude.{◌≡◌, List, ◌++◌, ℕ, ◌≤◌, ◌<◌, ℤ, length, take, drop, Option, Some, None, Result, Ok, Err}
 use Rattle.bit_rules.specs.Source.{Source, Stop, Out, got, stopped, stop}
 use Rattle.bits.specs.Code.{bits_in}
 use Rattle.bits.specs.declared.BitReader.{BitReader}
 use Rattle.bits.specs.declared.Stop.{Stop as Refused}
 use Rattle.bit_rules.specs.Table.{Table}
-use Rattle.plane_rules.specs.Task.{Task}
+use Rattle.plane_rules.specs.Task.{Task, walk, ended}
 use Rattle.plane_rules.specs.AcRead.{ac_block}
 use Rattle.ac_tasks.specs.Code.{open_of}
 use Rattle.ac_steps.specs.declared.Moved.{Moved}
@@ -30,7 +30,13 @@ pub record Carries (values before now : List ℤ) (o o' : Option Task) (s t : So
 pub record Halts (values before : List ℤ) (o : Option Task) (s : Source) (i : ℕ) (x : Stop) : Type 0 where
   pub same : (T : Table) (left : ℕ) (o₀ : Option Task) (s₀ : Source) → At T left values before o₀ o s₀ s i → stopped x ≡ ac_block T left o₀ values s₀
 
--- what the code came to: further on, where a position was left, and done, where one is left behind it
+-- no walk is open
+abbrev pub NoWalk : Option Task → Type 0
+NoWalk None = Unit
+NoWalk (Some (walk zeros sign)) = ⊥
+NoWalk (Some (ended run)) = Unit
+
+-- what the code came to: further on, where a position was left, done, where one is left behind it, and with no walk open; or it stops, with the reader where it was
 abbrev pub Steps : List ℤ → List ℤ → List ℤ → Option Task → Source → ℕ → BitReader → Result Moved Refused → Type 0
-Steps values before now o s i r (Ok moved) = Carries values before now o (open_of moved.task) s (bits_in r) i moved.at × (i < length values → i < moved.at) × (moved.at < length values → moved.task ≡ None)
-Steps values before now o s i r (Err x) = Halts values before o s i (stop x.number x.offset)
+Steps values before now o s i r (Ok moved) = Carries values before now o (open_of moved.task) s (bits_in r) i moved.at × (i < length values → i < moved.at) × (moved.at < length values → moved.task ≡ None) × NoWalk (open_of moved.task)
+Steps values before now o s i r (Err x) = Halts values before o s i (stop x.number x.offset) × (bits_in r ≡ s)

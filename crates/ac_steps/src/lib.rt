@@ -5,7 +5,7 @@ ghost use Rattle.std.specs.Prelude.{◌≡◌, ◌≤◌, length, Some};
 ghost use Rattle.bits.specs.Code.{bits_in};
 ghost use Rattle.planes.specs.Code.{Small};
 ghost use Rattle.plane_rules.specs.Task as task;
-ghost use Rattle.ac_tasks.specs.Code.{task_of, open_of};
+ghost use Rattle.ac_tasks.specs.Code.{task_of};
 ghost use Rattle.ac_values.specs.Code.{aim};
 ghost use Rattle.ac_steps.specs.Code.{Steps};
 
@@ -17,22 +17,6 @@ use bits::{BitReader, Stop};
 pub struct Moved {
     pub at: usize,
     pub task: Option<Job>,
-}
-
-// Further on, with a walk open that has so many zeros left to pass.
-fn walking(at: usize, zeros: usize, leave: bool, sign: bool) -> Moved
-    ensures at { result.at ≡ at }
-    ensures open { open_of result.task ≡ Some (task.walk zeros (aim leave sign)) }
-{
-    let job = if leave {
-        Job::Leave(zeros)
-    } else {
-        Job::Set(zeros, sign)
-    };
-    Moved {
-        at,
-        task: Some(job),
-    }
 }
 
 // A walk from a position on: corrections, so many zeros, and the zero behind them. (No task is kept from position to position: a copied enum is slow.)
@@ -50,12 +34,14 @@ fn walk<'a>(
     ensures { Steps values.now destination.old destination.new (Some (task.walk zeros (aim leave sign)))
         (bits_in r.old) from r.new result }
 {
+    let mut here = *r;
     let mut n = zeros;
     for i in from..values.len() {
         let v = values[i];
         if v == 0 {
             if n == 0 {
                 destination[i] = ac_values::aimed(leave, sign);
+                *r = here;
                 return Ok(Moved {
                     at: i + 1,
                     task: None,
@@ -64,10 +50,10 @@ fn walk<'a>(
             destination[i] = 0;
             n -= 1;
         } else {
-            destination[i] = ac_values::correct(r, v)?;
+            destination[i] = ac_values::correct(&mut here, v)?;
         }
     }
-    Ok(walking(values.len(), n, leave, sign))
+    Err(here.stop(16)) // no place left in the block
 }
 
 // The rest of a block in an end run: corrections alone.
@@ -83,14 +69,16 @@ fn rest<'a>(
     ensures { Steps values.now destination.old destination.new (Some (task.ended n))
         (bits_in r.old) from r.new result }
 {
+    let mut here = *r;
     for i in from..values.len() {
         let v = values[i];
         if v == 0 {
             destination[i] = 0;
         } else {
-            destination[i] = ac_values::correct(r, v)?;
+            destination[i] = ac_values::correct(&mut here, v)?;
         }
     }
+    *r = here;
     Ok(Moved {
         at: values.len(),
         task: Some(Job::Ended(n)),

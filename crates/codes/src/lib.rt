@@ -1,7 +1,7 @@
 // Code tables of T.81: validity, reading a code, the numbers of their lengths, a code looked up by them (docs/RULES.md, K1, K2, K4 to K8).
 #![tactic(auto)]
 
-ghost use Rattle.std.specs.Prelude.{◌≡◌, true, ◌+◌, ◌≤◌, ◌<◌, length, drop};
+ghost use Rattle.std.specs.Prelude.{◌≡◌, true, ◌+◌, ◌≤◌, ◌<◌, length, drop, IfErr};
 ghost use Rattle.bits.specs.Code.{bits_in, read_by};
 ghost use Rattle.bit_rules.specs.Table.{table, code_count, kraft, holds, distinct, good_table};
 ghost use Rattle.bit_rules.specs.Read.{take_code};
@@ -79,21 +79,24 @@ pub fn good_table(counts: &[u8], values: &[u8]) -> bool
 // The value of the code that the next bits make.
 pub fn take_code<'a>(counts: &[u8], values: &[u8], r: &mut BitReader<'a>) -> Result<u8, Stop>
     requires { good_table (table counts.now values.now) ≡ true }
-    ensures { read_by r.new result ≡ take_code (table counts.now values.now) (bits_in r.old) }
+    ensures taken { read_by r.new result ≡ take_code (table counts.now values.now) (bits_in r.old) }
+    ensures kept { IfErr result (λ stop. bits_in r.new ≡ bits_in r.old) }
 {
+    let mut here = *r;
     let mut over = 0;
     let mut place = 0;
     for &count in counts {
-        let b = r.next_bit()?;
+        let b = here.next_bit()?;
         over = 2 * over + (b as usize);
         let n = usize::from(count);
         if over < n {
+            *r = here;
             return Ok(values[place + over]);
         }
         over -= n;
         place += n;
     }
-    Err(r.stop(14)) // sixteen bits and no code
+    Err(here.stop(14)) // sixteen bits and no code
 }
 
 // One above the largest of n codes, which begin at the smallest; 0 where there are none.
@@ -133,17 +136,20 @@ pub fn look_up<'a>(
     r: &mut BitReader<'a>,
 ) -> Result<u8, Stop>
     requires { Prepared (table counts.now values.now) numbers.now }
-    ensures { read_by r.new result ≡ take_code (table counts.now values.now) (bits_in r.old) }
+    ensures taken { read_by r.new result ≡ take_code (table counts.now values.now) (bits_in r.old) }
+    ensures kept { IfErr result (λ stop. bits_in r.new ≡ bits_in r.old) }
 {
+    let mut here = *r;
     let mut code = 0;
     for l in 0..16 {
-        let bit = r.next_bit()?;
+        let bit = here.next_bit()?;
         code = 2 * code + (bit as usize);
         if code < usize::from(numbers[3 * l + 1]) {
             let smallest = usize::from(numbers[3 * l]);
             let position = usize::from(numbers[3 * l + 2]);
+            *r = here;
             return Ok(values[position + code - smallest]);
         }
     }
-    Err(r.stop(14))
+    Err(here.stop(14))
 }

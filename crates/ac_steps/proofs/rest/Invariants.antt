@@ -6,4 +6,4 @@ use Rattle.ac_steps.specs.Code.{Carries}
 use Rattle.ac_steps.proofs.rest.Given as goal
 
 abbrev pub invariant-loop-i : goal.invariant-loop-i
-invariant-loop-i l = Carries l.values l.initial.destination l.destination (Some (task.ended l.n)) (Some (task.ended l.n)) (bits_in l.initial.r) (bits_in l.r) l.from l.i
+invariant-loop-i l = Carries l.values l.initial.destination l.destination (Some (task.ended l.n)) (Some (task.ended l.n)) (bits_in l.initial.here) (bits_in l.here) l.from l.i

@@ -9,34 +9,39 @@ use borrow.Author.Rules.{rules}
 use Rattle.std.proofs.lemmas.Result.{err_from_is_err_and}
 use Rattle.laws.proofs.Integers.{back}
 use Rattle.bits.specs.Code.{read_as}
-use Rattle.ac_steps.proofs.Positions.{carries_landed, carries_passed, carries_stopped, carries_fixed}
+use Rattle.ac_steps.proofs.Positions.{carries_landed, carries_passed, carries_stopped, carries_fixed, carries_out}
 use Rattle.ac_steps.proofs.walk.Goals.{then-v-eq0+else-n-eq0, else-v-eq0+in_ok-destination}
 use Rattle.ac_steps.proofs.walk.Goals as goal
 
 pub returns-then-n-eq0 : goal.returns-then-n-eq0
 returns-then-n-eq0 c = let old : to_z w32 (of_z w32 (get_or c.args.values.now c.loop-i.i (pos 0))) ≡ get_or c.args.values.now c.loop-i.i (pos 0) = back w32 (get_or c.args.values.now c.loop-i.i (pos 0)) (search rules) in (
   rw (back w32 _ c.aimed.type_inv, c.aimed.ensures)
-      (carries_landed c.loop-i.n c.args.leave c.args.sign c.loop-i.invariant c.loop-i-test.true (sym old ∙ ap (to_z w32) c.if-v-eq0.true) c.if-n-eq0.true),
+      (carries_landed c.loop-i.n c.args.leave c.args.sign c.loop-i.invariant.carried c.loop-i-test.true (sym old ∙ ap (to_z w32) c.if-v-eq0.true) c.if-n-eq0.true),
   omega arith,
   λ h. refl,
+  tt,
 )
 
 pub returns-in_err-destination : goal.returns-in_err-destination
 unfolding read_as
 returns-in_err-destination c = let p = err_from_is_err_and c.from_residual.result c.from_residual.ensures.1 in
     let old : to_z w32 (of_z w32 (get_or c.args.values.now c.loop-i.i (pos 0))) ≡ get_or c.args.values.now c.loop-i.i (pos 0) = back w32 (get_or c.args.values.now c.loop-i.i (pos 0)) (search rules) in
-    rw (p.1, p.2) (carries_stopped c.loop-i.invariant c.loop-i-test.true (λ e. c.if-v-eq0.false (ap (of_z w32) e)) (rw old at (sym c.in_err-destination.ensures)))
+    rw (p.1, p.2) (carries_stopped c.loop-i.invariant.carried c.loop-i-test.true (λ e. c.if-v-eq0.false (ap (of_z w32) e)) (rw old at (sym c.in_err-destination.ensures.taken)), c.loop-i.invariant.kept)
 
 pub loop-i-preserved : goal.loop-i-preserved
 unfolding read_as
 loop-i-preserved c = let old : to_z w32 (of_z w32 (get_or c.args.values.now c.loop-i.i (pos 0))) ≡ get_or c.args.values.now c.loop-i.i (pos 0) = back w32 (get_or c.args.values.now c.loop-i.i (pos 0)) (search rules) in
     elim c.if-v-eq0.branch [
-      | then-v-eq0+else-n-eq0 w ↦ rw (w.destination-is, w.r-is, w.n-is)
-          (carries_passed c.loop-i.n c.loop-i.invariant c.loop-i-test.true (sym old ∙ ap (to_z w32) w.if-v-eq0.true) w.if-n-eq0.false)
-      | else-v-eq0+in_ok-destination w ↦ rw (w.destination-is, w.r-is, w.n-is)
-          (carries_fixed c.loop-i.invariant c.loop-i-test.true (λ e. w.if-v-eq0.false (ap (of_z w32) e))
-          (rw (back w32 w.in_ok-destination.field-0 (search rules)) (rw old at (sym w.in_ok-destination.ensures))))
+      | then-v-eq0+else-n-eq0 w ↦ rw (w.destination-is, w.here-is, w.n-is) (record {
+        carried = carries_passed c.loop-i.n c.loop-i.invariant.carried c.loop-i-test.true (sym old ∙ ap (to_z w32) w.if-v-eq0.true) w.if-n-eq0.false;
+        kept = c.loop-i.invariant.kept;
+      })
+      | else-v-eq0+in_ok-destination w ↦ rw (w.destination-is, w.here-is, w.n-is) (record {
+        carried = carries_fixed c.loop-i.invariant.carried c.loop-i-test.true (λ e. w.if-v-eq0.false (ap (of_z w32) e))
+            (rw (back w32 w.in_ok-destination.field-0 (search rules)) (rw old at (sym w.in_ok-destination.ensures.taken)));
+        kept = c.loop-i.invariant.kept;
+      })
     ]
 
--- `returns` itself, an open walk that is handed on behind the last position, the search finds: by `walking`'s promise
--- it is the task of the invariant. (Where the walk stops there instead, `carries_out` says with what.)
+pub returns : goal.returns
+returns c = (rw c.stop.ensures (carries_out _ c.loop-i.invariant.carried (omega arith)), c.loop-i.invariant.kept)
