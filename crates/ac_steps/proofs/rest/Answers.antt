@@ -1,7 +1,8 @@
 -- `ac_steps::rest` meets its contract: what the block came to from `from` on carries to position i. Assumes nothing.
 use mathlib.Core.Path.{◌≡◌, refl, sym, ap, ◌∙◌}
+use native.Mathlib.Omega.{arith}
 use lib.IntN.{pos}
-use lib.ListN.{get_or}
+use lib.ListN.{length, get_or}
 use mir.Syntax.{w32}
 use mir.Val.{to_z, of_z}
 use borrow.Author.Rules.{rules}
@@ -27,3 +28,6 @@ loop-i-preserved c = let old : to_z w32 (of_z w32 (get_or c.args.values.now c.lo
           (carries_fixed c.loop-i.invariant c.loop-i-test.true (λ e. w.if-v-eq0.false (ap (of_z w32) e))
           (rw (back w32 w.in_ok-destination.field-0 (search rules)) (rw old at (sym w.in_ok-destination.ensures.taken))))
     ]
+
+pub returns : goal.returns
+returns c = let e : c.loop-i.i ≡ length c.args.values.now = omega arith in rw (← e) (c.loop-i.invariant, λ h. h, λ h. absurd (omega arith), tt)
