@@ -1,12 +1,12 @@
 -- Laws of `put_at`: bytes written at a position of a list.
-use Prim.Native.Nat.{ℕ, ◌+◌, ◌≤◌}
+use Prim.Native.Nat.{ℕ, ◌+◌, ◌≤◌, ◌<◌}
 use mathlib.Core.Path.{◌≡◌, refl, ap, ap₂, sym, ◌∙◌}
 use mathlib.Core.List.{List, [], ◌∷◌, ◌++◌, append_assoc}
 use native.Mathlib.Omega.{arith}
 use native.Mathlib.Nat.{zero-add}
-use lib.ListN.{length, take, drop, length-drop, length-append}
-use lib.Seq.{length-take-le, take_at, drop-append-add, drop-drop, paste-zero}
-use borrow.Rule.Slice.PartMut.{put_mid}
+use native.Mathlib.Numerals.{add-one}
+use lib.ListN.{length, take, drop, set, get_or, length-drop, length-append}
+use lib.Seq.{length-take-le, take_at, drop-append-add, drop-drop, get_or-drop, paste, paste-zero, paste-suc}
 use Rattle.box_rules.specs.declared.Head.{Head}
 use Rattle.box_rules.specs.Packets.{Packet, mine_from}
 use Rattle.packets.specs.Code.{Met}
@@ -44,11 +44,19 @@ pub put_front : (d b : List ℕ) → put_at d 0 b ≡ b ++ drop (length b) d
 unfolding put_at
 put_front d b = ap (λ (k : ℕ). b ++ drop k d) (zero-add (length b))
 
--- a part of d that was written over: k bytes from `at` on
-pub part_put : (d b part : List ℕ) (at k : ℕ) → part ≡ b → k ≡ length b → put_mid at k d part ≡ put_at d at b
+pub paste_put : (d s : List ℕ) (at n : ℕ) → n ≤ length s → paste d at s n ≡ put_at d at (take n s)
 unfolding put_at
-part_put d b part at k e h =
-    ap₂ (λ (x y : List ℕ). take at d ++ (x ++ y)) e (drop-drop k at d ∙ ap (λ (n : ℕ). drop (at + n) d) h) ∙ sym (append_assoc (take at d) b (drop (at + length b) d))
+paste_put d s at n h = ap (λ (k : ℕ). take at d ++ take n s ++ drop (at + k) d) (sym (length-take-le n s h))
+
+-- ---- a turn of the loop that copies
+
+pub copy_turn : (d₀ d s : List ℕ) (to start i : ℕ) → d ≡ paste d₀ to (drop start s) i → to + i < length d₀ → start + i < length s
+    → set d (to + i) (get_or s (start + i) 0) ≡ paste d₀ to (drop start s) (i + 1)
+copy_turn d₀ d s to start i e h g =
+    ap (λ (x : List ℕ). set x (to + i) (get_or s (start + i) 0)) e
+    ∙ ap (λ (v : ℕ). set (paste d₀ to (drop start s) i) (to + i) v) (sym (get_or-drop start s i 0))
+    ∙ paste-suc d₀ to (drop start s) i 0 h (simp length-drop (omega arith))
+    ∙ ap (λ (k : ℕ). paste d₀ to (drop start s) k) (sym (add-one i))
 
 -- ---- writing a text piece by piece: what is left to write at `end` of d is the whole at `to` of d₀
 

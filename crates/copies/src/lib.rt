@@ -9,12 +9,14 @@ ghost use Rattle.copies.specs.Code.{put_at, Numbered, Windowed};
 
 use packets::{Mine, Sought};
 
-// Copies len bytes of the file from start on to the destination at position to.
+// Copies len bytes of the file from start on to the destination at position to. (A loop: `copy_from_slice` makes the library need memmove from outside.)
 fn copy_part(file: &[u8], start: usize, len: usize, destination: &mut [u8], to: usize)
     requires { (start + len ≤ length file.now) × (to + len ≤ length destination.old) }
     ensures { destination.new ≡ put_at destination.old to (take len (drop start file.now)) }
 {
-    destination[to..to + len].copy_from_slice(&file[start..start + len]);
+    for i in 0..len {
+        destination[to + i] = file[start + i];
+    }
 }
 
 // Puts the payloads at the front, in file order.
