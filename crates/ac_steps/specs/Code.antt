@@ -33,8 +33,8 @@ pub record Halts (values before : List ℤ) (o : Option Task) (s : Source) (i : 
 -- no walk is open
 abbrev pub NoWalk : Option Task → Type 0
 NoWalk None = Unit
-NoWalk (Some (walk zeros sign)) = ⊥
-NoWalk (Some (ended run)) = Unit
+NoWalk (Some (walk _ _)) = ⊥
+NoWalk (Some (ended _)) = Unit
 
 -- what the code came to: further on, where a position was left, done, where one is left behind it, and with no walk open; or it stops, with the reader where it was
 abbrev pub Steps : List ℤ → List ℤ → List ℤ → Option Task → Source → ℕ → BitReader → Result Moved Refused → Type 0
