@@ -7,7 +7,7 @@ ghost use Rattle.box_rules.specs.Order.{payloads};
 ghost use Rattle.scans.specs.Code.{mine_of};
 ghost use Rattle.copies.specs.Code.{put_at, Numbered, Windowed};
 
-use packets::{Mine, Sought};
+use packets::Sought;
 
 // Copies len bytes of the file from start on to the destination at position to. (A loop: `copy_from_slice` makes the library need memmove from outside.)
 fn copy_part(file: &[u8], start: usize, len: usize, destination: &mut [u8], to: usize)
@@ -58,11 +58,16 @@ fn put_window(
     windows::locate(sought, passed, places);
     let mut end = to;
     for i in 0..k {
-        let Some(Mine { start, len, .. }) = sought.next_from(places[i]) else {
+        let at = places[i];
+        if let Some(here) = sought.here(at) {
+            copy_part(sought.file, at + 20, here - 18, destination, end);
+            end += here - 18;
+        } else if let Some(mine) = sought.next_from(at) {
+            copy_part(sought.file, mine.start, mine.len, destination, end);
+            end += mine.len;
+        } else {
             return end;
-        };
-        copy_part(sought.file, start, len, destination, end);
-        end += len;
+        }
     }
     end
 }
