@@ -12,7 +12,7 @@ use lib.Seq.{drop-cons, take-suc-set, append_snoc, take_all}
 use Rattle.bit_rules.specs.Source.{Source, Stop, Out, got, stopped, stop, take_bit}
 use Rattle.bit_rules.specs.Reader.{and_then, done}
 use Rattle.bit_rules.specs.Table.{Table}
-use Rattle.plane_rules.specs.Task.{Task, walk, at_zero, pass}
+use Rattle.plane_rules.specs.Task.{Task, walk, ended, at_zero, pass, over}
 use Rattle.plane_rules.specs.AcRead.{task_at, position, block_end, ac_block}
 use Rattle.bits.specs.Code.{bits_in, read_as}
 use Rattle.bits.specs.declared.BitReader.{BitReader}
@@ -21,7 +21,7 @@ use Rattle.ac_tasks.specs.Code.{block_of}
 use Rattle.ac_tasks.specs.declared.Job.{Job}
 use Rattle.ac_values.specs.Code.{fixing, aim, aimed}
 use Rattle.ac_values.proofs.Values.{stays, at_value, landed}
-use Rattle.ac_steps.specs.Code.{in_front, At, Carries, Halts}
+use Rattle.ac_steps.specs.Code.{in_front, At, Carries, Halts, NoWalk}
 
 front_none : (o : Out (List ℤ × Option Task)) → in_front [] o ≡ o
 unfolding in_front
@@ -78,6 +78,13 @@ module _ {T : Table} {left : ℕ} {values now : List ℤ} {o₀ o : Option Task}
                 rw (add-one i, take-suc-set now i v l, ← add-one i)
                 (sym (front_one (take i now) v (ac_block T left after (drop (i + 1) values) z)) ∙ (rw (next, e, q) at a.same));
           }
+
+-- where no walk is open the block ends well: `NoWalk` leaves out all that `block_end` stops with 16
+pub no_walk_ends : (o : Option Task) (s : Source) → NoWalk o → block_end o s ≡ got ([], over o) s
+unfolding block_end
+no_walk_ends None s h = refl
+no_walk_ends (Some (ended n)) s h = refl
+no_walk_ends (Some (walk n b)) s h = absurd h
 
 -- ---- the same of what the code comes to from a position on
 
